@@ -1,0 +1,4 @@
+-- Laws of the sheet.
+pub mod Words
+pub mod Prices
+pub mod Turns
