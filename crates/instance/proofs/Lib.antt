@@ -2,3 +2,4 @@
 pub mod Words
 pub mod Prices
 pub mod Turns
+pub mod Stages

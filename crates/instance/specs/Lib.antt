@@ -2,4 +2,5 @@
 pub mod Bytes
 pub mod Instance
 pub mod Sheet
+pub mod Layout
 pub mod Passes

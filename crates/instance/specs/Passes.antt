@@ -33,13 +33,20 @@ module _ (s : List ℕ) where
   abbrev I : Instance
   I = instanceOf s
 
+  -- what the passes answer
+  abbrev pub goodDegrees : Degrees
+  goodDegrees = record { ok = true; total = nodeCells I; starts = padded 64 (I .nodeCount) (first I) }
+
   unfoldable pub degreesRead : Degrees
-  degreesRead = cond (degreesOk s) (record { ok = true; total = nodeCells I; starts = padded 64 (I .nodeCount) (first I) }) badDegrees
+  degreesRead = cond (degreesOk s) goodDegrees badDegrees
+
+  abbrev pub goodEnds : Ends
+  goodEnds = record { ok = true; total = edgeCells I; tables = padded 256 (I .edgeCount) (table I) }
 
   unfoldable pub endsRead : Ends
-  endsRead = cond (endsOk s) (record { ok = true; total = edgeCells I; tables = padded 256 (I .edgeCount) (table I) }) badEnds
+  endsRead = cond (endsOk s) goodEnds badEnds
 
-  -- what each pass takes to be checked before it
+  -- what each takes to be checked before it
   pub record DegreesAsked (n : ℕ) : Type 0 where
     pub nodes : n ≡ I .nodeCount
     pub few : n ≤ 64
@@ -57,3 +64,34 @@ module _ (s : List ℕ) where
     pub degrees : DegreesAsked n
     pub all : labels ≡ I .labelCount
     pub room : nodePricesAt s ≤ length s
+
+  -- what each stage of reading takes to be checked before it: the counts, then the degrees, then the ends
+  pub record Counted (n labels edges : ℕ) : Type 0 where
+    pub long : 16 ≤ length s
+    pub nodes : n ≡ I .nodeCount
+    pub fewNodes : n ≤ 64
+    pub known : labels ≡ I .labelCount
+    pub all : edges ≡ I .edgeCount
+    pub fewEdges : edges ≤ 256
+    pub room : n + 16 ≤ length s
+
+  pub record Begun (n labels edges : ℕ) (degrees : Degrees) : Type 0 where
+    pub counted : Counted n labels edges
+    pub small : degreesOk s ≡ true
+    pub begun : degrees ≡ goodDegrees
+    pub room : n + 5 * nodeCells I + 2 * edges + 16 ≤ length s
+
+  pub record Laid (n labels edges : ℕ) (degrees : Degrees) (ends : Ends) : Type 0 where
+    pub begun : Begun n labels edges degrees
+    pub tabled : ends ≡ goodEnds
+    pub short : edgeCells I ≤ 4_096
+    pub room : n + 5 * nodeCells I + 2 * edges + 4 * edgeCells I + 16 ≤ length s
+
+  -- the four counts, small enough that no sum of them wraps
+  pub record Sizes (n positions edges cells : ℕ) : Type 0 where
+    pub long : 16 ≤ length s
+    pub nodes : n ≡ I .nodeCount
+    pub places : positions ≡ nodeCells I
+    pub all : edges ≡ I .edgeCount
+    pub table : cells ≡ edgeCells I
+    pub small : n + positions + edges + cells ≤ 10_000

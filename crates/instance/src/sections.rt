@@ -12,7 +12,7 @@ ghost use Rattle.instance.specs.Passes.{badDegrees, degreesRead, badEnds
 // The mark at a sheet's end.
 const MARK: [u8; 4] = *b"MSH1";
 
-fn wide(x: u8) -> usize
+pub(crate) fn wide(x: u8) -> usize
     ensures { λ r. ⌜ (r ≡ x) × (r < 256) ⌝ }
 {
     x as usize
