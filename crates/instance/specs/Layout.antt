@@ -1,7 +1,9 @@
 -- What reading answers, and what is shown of one edge.
 use mathlib.Core.Bool.{Bool, cond}
+use mathlib.Core.Path.{_≡_}
 use mathlib.Core.List.{List, [], _∷_, _++_}
 use Prim.Native.Nat.{ℕ, _+_, _*_}
+use denote.Ref.{RefT, ptr, now}
 use lib.Dec.{ltb, eqb}
 use lib.ListN.{take, drop, replicate}
 use Rattle.integers.specs.Checks.{firstFailure, padded}
@@ -64,5 +66,13 @@ module _ (s : List ℕ) where
   edgeBytes e = 4 * tableSize I e
 
   -- "the prices of one edge are shown as that stretch of the sheet itself"; "an empty part when turned back"
+  unfoldable pub edgePlaceOf : ℕ → ℕ
+  edgePlaceOf e = cond (eqb (edgeRefusalOf e) 0) (edgeFrom e) 0
+
   unfoldable pub edgePricesOf : ℕ → List ℕ
   edgePricesOf e = cond (eqb (edgeRefusalOf e) 0) (take (edgeBytes e) (drop (edgeFrom e) s)) []
+
+-- r is that part of the sheet: the same bytes, in the same place
+pub record Shows (sheet : RefT (List ℕ)) (e : ℕ) (r : RefT (List ℕ)) : Type 0 where
+  pub bytes : now r ≡ edgePricesOf (now sheet) e
+  pub place : ptr r ≡ (ptr sheet .0, ptr sheet .1 + edgePlaceOf (now sheet) e)

@@ -2,5 +2,6 @@
 pub mod Bytes
 pub mod Instance
 pub mod Sheet
+pub mod Readable
 pub mod Layout
 pub mod Passes

@@ -2,15 +2,17 @@
 use mathlib.Core.Path.{_≡_}
 use mathlib.Core.Bool.{Bool, true, false, cond, _&&_, _||_}
 use mathlib.Core.List.{List}
-use Prim.Native.Nat.{ℕ, _+_, _-_, _*_, _≤_}
+use Prim.Native.Nat.{ℕ, _+_, _-_, _*_, _≤_, _<_}
 use lib.Dec.{ltb, eqb}
 use lib.ListN.{length, replicate}
 use Rattle.integers.specs.Checks.{below, within, padded}
+use Rattle.instance.specs.declared.reading.Layout.{Layout}
 use Rattle.instance.specs.declared.sections.Degrees.{Degrees}
 use Rattle.instance.specs.declared.sections.Ends.{Ends}
 use Rattle.instance.specs.Bytes.{byte, priceAt}
 use Rattle.instance.specs.Instance.{Instance, first, nodeCells, table, edgeCells}
 use Rattle.instance.specs.Sheet.{instanceOf, nodePricesAt, endsAt, degreesOk, endsOk}
+use Rattle.instance.specs.Layout.{layoutOf}
 
 abbrev pub badDegrees : Degrees
 badDegrees = record { ok = false; total = 0; starts = replicate 64 0 }
@@ -95,3 +97,9 @@ module _ (s : List ℕ) where
     pub all : edges ≡ I .edgeCount
     pub table : cells ≡ edgeCells I
     pub small : n + positions + edges + cells ≤ 10_000
+
+  -- a sheet that was read and not refused, and an edge of it
+  pub record EdgeAsked (layout : Layout) (edge : ℕ) : Type 0 where
+    pub answer : layout ≡ layoutOf s
+    pub sound : layout .refusal ≡ 0
+    pub there : edge < layout .edges

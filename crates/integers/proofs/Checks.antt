@@ -11,9 +11,9 @@ use borrow.Author.Tests.{ne-eqb, eqb-true, eqb-false, lt-ltb, le-ltb, ltb-true, 
 use lib.Dec.{eqb, leb, ltb}
 use lib.ListN.{length, getD, set, replicate, length-set, length-replicate, getD-replicate}
 use lib.Seq.{ext-getD, getD-set-same, getD-set-other}
-use Rattle.integers.specs.Places.{tabulate}
+use Rattle.integers.specs.Places.{every}
 use Rattle.integers.specs.Checks.{below, firstFailure, padded}
-use Rattle.integers.proofs.Places.{by-test, and-true, and-both, length-tabulate, getD-tabulate}
+use Rattle.integers.proofs.Places.{by-test, if-false, and-true, and-both, length-tabulate, getD-tabulate}
 
 -- ---- a test of each place
 
@@ -142,3 +142,15 @@ least-next-more f k = rw (add-one k)
 pub least-next-zero : (f : ℕ → ℕ) → least-next f 0 ≡ 0
 unfolding least-next
 least-next-zero f = refl
+
+-- ---- more checks after the first ones
+
+-- each number is above 0, so that 0 says that none failed
+abbrev pub numbered : List (Bool × ℕ) → Bool
+numbered l = every (λ (c : Bool × ℕ). ltb 0 (c .1)) l
+
+pub failure-append : (k l : List (Bool × ℕ)) → numbered k ≡ true → firstFailure (k ++ l) ≡ cond (eqb (firstFailure k) 0) (firstFailure l) (firstFailure k)
+unfolding firstFailure every
+failure-append [] l e = refl
+failure-append ((true, n) ∷ k) l e = failure-append k l (and-true (ltb 0 n) (numbered k) e .1)
+failure-append ((false, n) ∷ k) l e = sym (if-false _ n (ne-eqb n 0 (λ z. let p = ltb-true 0 n (and-true (ltb 0 n) (numbered k) e .0) in omega arith)))
