@@ -1,25 +1,21 @@
 -- What a caller of `read` has in hand: the refusal's number, and where no check failed the counts, the starts, and that rows and tables lie where they should.
 -- Assumes nothing.
-use mathlib.Core.Path.{_≡_, refl, sym, ap, _∙_, subst}
-use mathlib.Core.Bool.{Bool, true, false, cond}
-use mathlib.Core.List.{List, [], _∷_}
-use Prim.Native.Nat.{ℕ, _+_, _*_, _≤_, _<_}
+use mathlib.Core.Path.{_≡_, refl, sym, ap, _∙_}
+use mathlib.Core.List.{List}
+use Prim.Native.Nat.{ℕ, _+_, _≤_, _<_}
 use native.Mathlib.Nat.{mul-le-mul}
 use native.Mathlib.Omega.{arith}
-use borrow.Author.Tests.{eq-eqb, ne-eqb, eqb-true, eqb-false, lt-ltb, le-ltb, ltb-true, ltb-false}
-use lib.Dec.{eqb, ltb}
-use lib.ListN.{length, getD, take, drop, length-drop}
-use lib.Seq.{length-take-le}
-use Rattle.integers.specs.Places.{every}
-use Rattle.integers.specs.Checks.{firstFailure}
-use Rattle.integers.proofs.Places.{by-cond, by-test, if-true, if-false}
+use borrow.Author.Tests.{eq-eqb, eqb-true}
+use lib.Dec.{eqb}
+use lib.ListN.{getD}
+use Rattle.integers.proofs.Places.{by-cond, if-true}
 use Rattle.integers.proofs.Totals.{offset-le, offset-at-most}
-use Rattle.integers.proofs.Checks.{padded-at, passes, fails, numbered, failure-append}
+use Rattle.integers.proofs.Checks.{padded-at}
 use Rattle.instance.specs.declared.reading.Layout.{Layout}
 use Rattle.instance.specs.Instance.{Instance, first, nodeCells, tableSize, table, edgeCells}
-use Rattle.instance.specs.Sheet.{instanceOf, checks, refusalOf}
+use Rattle.instance.specs.Sheet.{instanceOf, refusalOf}
 use Rattle.instance.specs.Readable.{Proper, Readable}
-use Rattle.instance.specs.Layout.{refusedBy, described, answerOf, layoutOf, edgeRefusalOf, edgeFrom, edgeBytes, edgePlaceOf, edgePricesOf}
+use Rattle.instance.specs.Layout.{refusedBy, described, answerOf, layoutOf}
 use Rattle.instance.proofs.Readable.{readable}
 
 abbrev I : List ℕ → Instance

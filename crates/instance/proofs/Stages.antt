@@ -1,26 +1,23 @@
 -- The stages of reading, over plain values: what a check that fails or passes makes of the answer, and what the code's numbers say of each check.
 -- Assumes nothing.
-use mathlib.Core.Path.{_≡_, refl, sym, ap, ap₂, _∙_, subst}
+use mathlib.Core.Path.{_≡_, refl, sym, ap, ap₂, _∙_}
 use mathlib.Core.Bool.{Bool, true, false, cond, _&&_}
-use mathlib.Core.List.{List, [], _∷_}
-use Prim.Native.Nat.{ℕ, suc, _+_, _-_, _*_, _≤_, _<_}
-use native.Mathlib.Nat.{add-assoc}
+use mathlib.Core.List.{List, _∷_}
+use Prim.Native.Nat.{ℕ, suc, _+_, _*_, _≤_, _<_}
 use native.Mathlib.Omega.{arith}
-use borrow.Author.Tests.{le-leb, lt-leb, eq-eqb, ne-eqb, leb-true, eqb-true}
+use borrow.Author.Tests.{le-leb, lt-leb, eq-eqb, ne-eqb, eqb-true}
 use lib.Dec.{leb, eqb}
 use lib.ListN.{length, getD, drop}
 use lib.Seq.{drop-cons}
-use Rattle.integers.specs.Places.{offset}
-use Rattle.integers.specs.Checks.{below, firstFailure, padded}
-use Rattle.integers.proofs.Places.{by-test, if-true, if-false, and-true, and-both}
+use Rattle.integers.specs.Checks.{below, firstFailure}
+use Rattle.integers.proofs.Places.{if-true, if-false, and-true, and-both}
 use Rattle.integers.proofs.Totals.{offset-at-most}
 use Rattle.integers.proofs.Checks.{passes, fails}
-use Rattle.instance.specs.declared.reading.Layout.{Layout}
 use Rattle.instance.specs.declared.sections.Degrees.{Degrees}
 use Rattle.instance.specs.declared.sections.Ends.{Ends}
 use Rattle.instance.specs.Bytes.{byte, wordAt}
 use Rattle.instance.specs.Instance.{Instance, first, nodeCells, table, edgeCells}
-use Rattle.instance.specs.Sheet.{instanceOf, trailer, nodePricesAt, endsAt, edgePricesAt, marked, markAt, countsOk, degreesFit, degreesOk, endsFit, endsOk, cellsOk, lengthOk, pricesOk, checks}
+use Rattle.instance.specs.Sheet.{instanceOf, trailer, nodePricesAt, edgePricesAt, marked, markAt, countsOk, degreesFit, degreesOk, endsFit, endsOk, cellsOk, lengthOk, pricesOk, checks}
 use Rattle.instance.specs.Layout.{refusedBy, described, answerOf, layoutFrom}
 use Rattle.instance.specs.Passes.{badDegrees, goodDegrees, degreesRead, badEnds, goodEnds, endsRead, priceOk, DegreesAsked, EndsAsked, LabelsAsked, Counted, Begun, Laid, Sizes}
 use Rattle.instance.proofs.Turns.{degree-bounds}

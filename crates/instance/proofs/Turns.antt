@@ -1,12 +1,12 @@
 -- The turns of the passes over a sheet, over plain values: what a test at one place comes to, and what is known after so many turns.
 -- Assumes nothing.
-use mathlib.Core.Path.{_≡_, refl, sym, ap, ap₂, _∙_}
+use mathlib.Core.Path.{_≡_, sym, ap, ap₂, _∙_}
 use mathlib.Core.Bool.{Bool, true, false, _&&_, _||_}
 use mathlib.Core.List.{List}
 use Prim.Native.Nat.{ℕ, _+_, _-_, _*_, _≤_, _<_}
 use native.Mathlib.Nat.{add-assoc, mul-le-mul}
 use native.Mathlib.Omega.{arith}
-use borrow.Author.Tests.{le-leb, lt-leb, lt-ltb, le-ltb, eq-eqb, ne-eqb, ltb-true, ltb-false, leb-true, eqb-true, eqb-false}
+use borrow.Author.Tests.{le-leb, lt-leb, lt-ltb, le-ltb, ltb-true, ltb-false, leb-true, eqb-true, eqb-false}
 use lib.Dec.{leb, ltb, eqb}
 use lib.ListN.{length, set, replicate}
 use Rattle.integers.specs.Places.{offset}
@@ -14,11 +14,9 @@ use Rattle.integers.specs.Checks.{below, padded}
 use Rattle.integers.proofs.Places.{by-test, if-true, if-false, and-true, and-both}
 use Rattle.integers.proofs.Totals.{offset-more, offset-none, offset-le}
 use Rattle.integers.proofs.Checks.{Tested, tested-none, tested-more, tested-all, below-at, below-fails, below-ext, padded-more, padded-none, least-next, least-next-zero, least-next-more, rising-at}
-use Rattle.instance.specs.declared.sections.Degrees.{Degrees}
-use Rattle.instance.specs.declared.sections.Ends.{Ends}
 use Rattle.instance.specs.Bytes.{byte}
 use Rattle.instance.specs.Instance.{Instance, first, tableSize, table}
-use Rattle.instance.specs.Sheet.{instanceOf, labelsAt, endsAt, nodePricesAt, rises, degreeOk, degreesOk, endOk, endsOk, labelOk, labelsOk}
+use Rattle.instance.specs.Sheet.{instanceOf, labelsAt, rises, degreeOk, degreesOk, endOk, endsOk, labelOk, labelsOk}
 use Rattle.instance.specs.Passes.{badDegrees, degreesRead, badEnds, endsRead, positionOk, rowOk, DegreesAsked, EndsAsked, LabelsAsked}
 
 -- ---- tests joined by "and"

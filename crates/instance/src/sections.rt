@@ -44,7 +44,11 @@ pub(crate) struct Degrees {
 fn bad_degrees() -> Degrees
     ensures { λ r. ⌜ r ≡ badDegrees ⌝ }
 {
-    Degrees { ok: false, total: 0, starts: [0; 64] }
+    Degrees {
+        ok: false,
+        total: 0,
+        starts: [0; 64],
+    }
 }
 
 pub(crate) fn read_degrees(sheet: &[u8], n: usize) -> Degrees
@@ -66,7 +70,11 @@ pub(crate) fn read_degrees(sheet: &[u8], n: usize) -> Degrees
         total += degree;
         u += 1;
     }
-    Degrees { ok: true, total, starts }
+    Degrees {
+        ok: true,
+        total,
+        starts,
+    }
 }
 
 // The edge ends: M, and where each edge's table begins.
@@ -79,7 +87,11 @@ pub(crate) struct Ends {
 fn bad_ends() -> Ends
     ensures { λ r. ⌜ r ≡ badEnds ⌝ }
 {
-    Ends { ok: false, total: 0, tables: [0; 256] }
+    Ends {
+        ok: false,
+        total: 0,
+        tables: [0; 256],
+    }
 }
 
 // The pairs of ends stand from `at` on. `next` is the least pair that may come, as u times 256 and v.
@@ -109,7 +121,11 @@ pub(crate) fn read_ends(sheet: &[u8], n: usize, at: usize, edges: usize) -> Ends
         total += wide(sheet[u]) * wide(sheet[v]);
         e += 1;
     }
-    Ends { ok: true, total, tables }
+    Ends {
+        ok: true,
+        total,
+        tables,
+    }
 }
 
 // Whether the labels of one node, from `at` on, rise and lie below `labels`. `next` is the least that may come.
@@ -156,7 +172,11 @@ pub(crate) fn labels_ok(sheet: &[u8], n: usize, labels: usize) -> bool
 fn price_ok(bits: u32) -> bool
     ensures { λ r. ⌜ r ≡ within 1_000_000 (toZ w32 bits) ⌝ }
 {
-    if bits <= 1_000_000 { true } else { 4_293_967_296 <= bits }
+    if bits <= 1_000_000 {
+        true
+    } else {
+        4_293_967_296 <= bits
+    }
 }
 
 // Whether each of the `count` prices from `at` on does.

@@ -59,9 +59,10 @@ loop-again : tie.Need-loop-again Inv-loop μ-loop
 loop-again c =
     let a = c .before .before .before .before .before .before .before .args in
     let t = c .before .before .before .before .before .loop in
-    let w = c .before .before .wide .ensures .0 in
-    (tested-more (t .inv .0) (c .before .before .before .before .loop-test .taken) (position-good (a .sheet .now) (a .at) (a .labels) (t .k) (t .next) (t .inv .1) (rw w at (c .before .if1 .left)) (rw w at (c .if2 .left))),
-    ap (λ (z : ℕ). z + 1) w ∙ sym (least-next-more _ (t .k)))
+    let w = c .before .before .wide .ensures .0 in (
+      tested-more (t .inv .0) (c .before .before .before .before .loop-test .taken) (position-good (a .sheet .now) (a .at) (a .labels) (t .k) (t .next) (t .inv .1) (rw w at (c .before .if1 .left)) (rw w at (c .if2 .left))),
+      ap (λ (z : ℕ). z + 1) w ∙ sym (least-next-more _ (t .k)),
+    )
 
 returns-3 : tie.Need-returns-3 Inv-loop μ-loop
 unfolding rowOk

@@ -1,0 +1,76 @@
+// Going through the file: the cases, and the calls of each.
+use crate::file::after;
+use crate::file::past_bytes;
+use crate::ops;
+use crate::tally;
+use crate::tally::Tally;
+use instance::byte_at;
+use instance::word_at;
+
+// How far the replay is: the place of the next case, and what was counted so far.
+struct Progress {
+    at: usize,
+    tally: Tally,
+}
+
+// The whole file. One that does not begin with the mark has no cases.
+pub fn replay(file: &[u8]) -> Tally {
+    // the mark, "ORCLVEC1"
+    if word_at(file, 0) != 0x4c43_524f {
+        return tally::empty();
+    }
+    if word_at(file, 4) != 0x3143_4556 {
+        return tally::empty();
+    }
+    replay_cases(file, after(file, 0, 16), word_at(file, 12))
+}
+
+fn replay_cases(file: &[u8], first: usize, cases: u32) -> Tally {
+    let mut tally = tally::empty();
+    let mut at = first;
+    let mut left = cases;
+    while 0 < left && at <= file.len() {
+        let done = replay_case(file, at, tally);
+        tally = done.tally;
+        at = done.at;
+        left -= 1;
+    }
+    tally
+}
+
+// One case: its sheet, then the prior, the lengths of the four buffers and the number of its calls.
+fn replay_case(file: &[u8], at: usize, tally: Tally) -> Progress {
+    let from = after(file, at, 4);
+    let to = past_bytes(file, at);
+    if file.len() < to {
+        return Progress { at: to, tally };
+    }
+    if to < from {
+        return Progress { at: to, tally };
+    }
+    let calls = word_at(file, after(file, to, 17));
+    let done = replay_calls(file, after(file, to, 21), calls, &file[from..to], tally);
+    if file.len() < done.at {
+        return done;
+    }
+    let counted = done.tally;
+    let counted = tally::case_done(counted);
+    Progress {
+        at: done.at,
+        tally: counted,
+    }
+}
+
+fn replay_calls(file: &[u8], first: usize, calls: u32, sheet: &[u8], before: Tally) -> Progress {
+    let mut tally = before;
+    let mut at = first;
+    let mut left = calls;
+    while 0 < left && at <= file.len() {
+        let op = byte_at(file, at);
+        let verdict = ops::judge(file, op, after(file, at, 1), sheet);
+        tally = tally::counted(tally, op, verdict);
+        at = ops::past_call(file, at);
+        left -= 1;
+    }
+    Progress { at, tally }
+}

@@ -1,0 +1,42 @@
+// Places in the file and the numbers that stand there. A place is always one that `after` answered: at most the
+// file's length, or `LOST`. Reading past the end gives 0, so no place has to be tested before it is read.
+use instance::byte_at;
+use instance::word_at;
+
+// The place of what the file does not hold.
+pub const LOST: usize = usize::MAX;
+
+// The place `by` bytes further on.
+pub fn after(file: &[u8], at: usize, by: usize) -> usize {
+    if file.len() < at {
+        return LOST;
+    }
+    if file.len() - at < by {
+        return LOST;
+    }
+    at + by
+}
+
+// The place past a field of bytes, which is its length and then that many.
+pub fn past_bytes(file: &[u8], at: usize) -> usize {
+    after(file, after(file, at, 4), word_at(file, at) as usize)
+}
+
+// Eight bytes, the lowest first.
+pub fn number_at(file: &[u8], at: usize) -> u64 {
+    let low = word_at(file, at) as u64;
+    let high = word_at(file, after(file, at, 4)) as u64;
+    low + 0x1_0000_0000 * high
+}
+
+// Whether the expected number at a place of the file is this one.
+pub fn number_is(file: &[u8], at: usize, by: usize, value: u64) -> bool {
+    number_at(file, after(file, at, by)) == value
+}
+
+// The place past a call's answers: their count, the numbers, the hash of the output and that of the state.
+pub fn past_answers(file: &[u8], at: usize) -> usize {
+    let numbers = after(file, at, 1);
+    let hashes = after(file, numbers, 8 * byte_at(file, at) as usize);
+    after(file, hashes, 16)
+}

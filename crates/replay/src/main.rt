@@ -1,0 +1,48 @@
+// Replays the calls of an outside vector file against this repository's crates, and counts for each kind of call
+// how many were compared, how many of those differed, and how many were skipped.
+use libc::STDOUT_FILENO;
+
+mod cases;
+mod file;
+mod hash;
+mod ops;
+mod tally;
+
+use tally::Tally;
+
+// One line: a call's name and its three counts.
+fn print_op(name: &[u8], tally: Tally, op: u8) {
+    let counts = tally::of(tally, op);
+    io::write_all(STDOUT_FILENO, name);
+    io::write_all(STDOUT_FILENO, b" compared ");
+    io::print_decimal(STDOUT_FILENO, counts.compared);
+    io::write_all(STDOUT_FILENO, b" differed ");
+    io::print_decimal(STDOUT_FILENO, counts.differed);
+    io::write_all(STDOUT_FILENO, b" skipped ");
+    io::print_decimal(STDOUT_FILENO, counts.skipped);
+    io::write_all(STDOUT_FILENO, b"\n");
+}
+
+fn print_all(tally: Tally) {
+    print_op(b"open", tally, ops::OPEN);
+    print_op(b"run", tally, ops::RUN);
+    print_op(b"report", tally, ops::REPORT);
+    print_op(b"sweep", tally, ops::SWEEP);
+    print_op(b"show", tally, ops::SHOW);
+    print_op(b"read", tally, ops::READ);
+    io::write_all(STDOUT_FILENO, b"cases ");
+    io::print_decimal(STDOUT_FILENO, tally.cases);
+    io::write_all(STDOUT_FILENO, b"\n");
+}
+
+fn main() {
+    let fd = os::open_read(b"base-small.vec");
+    if fd < 0 {
+        os::fail(b"base-small.vec");
+        return;
+    }
+    let mut buffer = io::large_buffer();
+    let n = io::read_full(fd, &mut buffer);
+    libc::close(fd);
+    print_all(cases::replay(&buffer[..n]));
+}

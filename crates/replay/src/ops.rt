@@ -1,0 +1,87 @@
+// The calls. For each op a function makes the call and says whether its answers and its output are those of the
+// file, of which `at` is the place of the call's parameters.
+//
+// The state hash belongs to the calls that have buffers: until these are here, it is not compared.
+use crate::file::LOST;
+use crate::file::after;
+use crate::file::number_is;
+use crate::file::past_answers;
+use crate::file::past_bytes;
+use crate::hash;
+use crate::tally::Verdict;
+use crate::tally::verdict;
+use instance::Layout;
+use instance::byte_at;
+use instance::word_at;
+
+pub const OPEN: u8 = 1;
+pub const RUN: u8 = 2;
+pub const REPORT: u8 = 3;
+pub const SWEEP: u8 = 4;
+pub const SHOW: u8 = 5;
+pub const READ: u8 = 6;
+const RESIZE: u8 = 20;
+const POKE: u8 = 21;
+
+// The one place where an op is chosen.
+pub fn judge(file: &[u8], op: u8, at: usize, sheet: &[u8]) -> Verdict {
+    match op {
+        SHOW => verdict(show_agrees(file, at, sheet)),
+        READ => verdict(read_agrees(file, at, sheet)),
+        _ => Verdict::Skipped,
+    }
+}
+
+// The place past a call's parameters; an op that is none ends the replay.
+fn past_parameters(file: &[u8], op: u8, at: usize) -> usize {
+    match op {
+        OPEN | READ => at,
+        RUN => past_bytes(file, after(file, at, 8)),
+        REPORT | SWEEP => after(file, at, 8),
+        SHOW => after(file, at, 4),
+        RESIZE => after(file, at, 5),
+        POKE => after(file, at, 13),
+        _ => LOST,
+    }
+}
+
+// The place past a whole call.
+pub fn past_call(file: &[u8], at: usize) -> usize {
+    let op = byte_at(file, at);
+    past_answers(file, past_parameters(file, op, after(file, at, 1)))
+}
+
+// Show edge: the refusal and the length of the part, and the part as the output.
+fn show_agrees(file: &[u8], at: usize, sheet: &[u8]) -> bool {
+    let edge = word_at(file, at) as usize;
+    let prices = instance::edge_prices(sheet, edge);
+    let refusal = instance::edge_refusal(sheet, edge) as u64;
+    let at = after(file, at, 4);
+    byte_at(file, at) == 2
+        && number_is(file, at, 1, refusal)
+        && number_is(file, at, 9, prices.len() as u64)
+        && number_is(file, at, 17, hash::of_bytes(prices))
+}
+
+// Read: the refusal and the counts, and where the nodes' cells and the edges' tables begin as the output.
+fn read_agrees(file: &[u8], at: usize, sheet: &[u8]) -> bool {
+    let layout = instance::read(sheet);
+    counts_agree(file, at, layout) && number_is(file, at, 49, layout_hash(layout))
+}
+
+fn counts_agree(file: &[u8], at: usize, layout: Layout) -> bool {
+    byte_at(file, at) == 6
+        && number_is(file, at, 1, layout.refusal as u64)
+        && number_is(file, at, 9, layout.nodes as u64)
+        && number_is(file, at, 17, layout.labels as u64)
+        && number_is(file, at, 25, layout.edges as u64)
+        && number_is(file, at, 33, layout.positions as u64)
+        && number_is(file, at, 41, layout.cells as u64)
+}
+
+fn layout_hash(layout: Layout) -> u64 {
+    let starts = layout.starts;
+    let tables = layout.tables;
+    let h = hash::add_words(1, &starts);
+    hash::add_words(h, &tables)
+}

@@ -1,0 +1,82 @@
+// Counting the calls, for each op by its number.
+
+pub enum Verdict {
+    Agreed,
+    Differed,
+    Skipped,
+}
+
+pub fn verdict(agreed: bool) -> Verdict {
+    if agreed { Verdict::Agreed } else { Verdict::Differed }
+}
+
+pub struct Tally {
+    pub compared: [u64; 8],
+    pub differed: [u64; 8],
+    pub skipped: [u64; 8],
+    // the cases gone through to their end
+    pub cases: u64,
+}
+
+// What is counted for one op.
+pub struct Counts {
+    pub compared: u64,
+    pub differed: u64,
+    pub skipped: u64,
+}
+
+pub fn empty() -> Tally {
+    Tally {
+        compared: [0; 8],
+        differed: [0; 8],
+        skipped: [0; 8],
+        cases: 0,
+    }
+}
+
+fn more(count: u64) -> u64 {
+    std::num::wrapping_add_u64(count, 1)
+}
+
+// Counts one call. What is no call of the crates, a resize or a poke, is not counted.
+pub fn counted(mut tally: Tally, op: u8, verdict: Verdict) -> Tally {
+    let k = op as usize;
+    if 8 <= k {
+        return tally;
+    }
+    match verdict {
+        Verdict::Agreed => {
+            tally.compared[k] = more(tally.compared[k]);
+        }
+        Verdict::Differed => {
+            tally.compared[k] = more(tally.compared[k]);
+            tally.differed[k] = more(tally.differed[k]);
+        }
+        Verdict::Skipped => {
+            tally.skipped[k] = more(tally.skipped[k]);
+        }
+    }
+    tally
+}
+
+// Counts one case.
+pub fn case_done(mut tally: Tally) -> Tally {
+    tally.cases = more(tally.cases);
+    tally
+}
+
+pub fn of(tally: Tally, op: u8) -> Counts {
+    let k = op as usize;
+    if 8 <= k {
+        return Counts {
+            compared: 0,
+            differed: 0,
+            skipped: 0,
+        };
+    }
+    Counts {
+        compared: tally.compared[k],
+        differed: tally.differed[k],
+        skipped: tally.skipped[k],
+    }
+}
