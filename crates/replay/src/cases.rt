@@ -66,11 +66,15 @@ fn replay_calls(file: &[u8], first: usize, calls: u32, sheet: &[u8], before: Tal
     let mut at = first;
     let mut left = calls;
     while 0 < left && at <= file.len() {
-        let op = byte_at(file, at);
-        let verdict = ops::judge(file, op, after(file, at, 1), sheet);
-        tally = tally::counted(tally, op, verdict);
+        tally = replay_call(file, at, sheet, tally);
         at = ops::past_call(file, at);
         left -= 1;
     }
     Progress { at, tally }
+}
+
+fn replay_call(file: &[u8], at: usize, sheet: &[u8], before: Tally) -> Tally {
+    let op = byte_at(file, at);
+    let verdict = ops::judge(file, op, after(file, at, 1), sheet);
+    tally::counted(before, op, verdict)
 }

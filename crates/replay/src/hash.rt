@@ -11,14 +11,21 @@ pub fn step(hash: u64, value: u64) -> u64
     (hash * 257 + value % MODULUS + 1) % MODULUS
 }
 
-// A step for each byte.
+fn add_byte(hash: u64, byte: u8) -> u64
+    requires { ⌜ hash < 4294967291 ⌝ }
+    ensures { λ r. ⌜ r < 4294967291 ⌝ }
+{
+    step(hash, byte as u64)
+}
+
+// The hash of an output that is these bytes.
 pub fn of_bytes(bytes: &[u8]) -> u64
     ensures { λ r. ⌜ r < 4294967291 ⌝ }
 {
     let mut hash: u64 = 1;
     let mut i = 0;
     while i < bytes.len() {
-        hash = step(hash, bytes[i] as u64);
+        hash = add_byte(hash, bytes[i]);
         i += 1;
     }
     hash

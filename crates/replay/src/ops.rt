@@ -9,25 +9,32 @@ use crate::file::past_answers;
 use crate::file::past_bytes;
 use crate::hash;
 use crate::tally::Verdict;
-use crate::tally::verdict;
+use crate::tally::judged;
 use instance::Layout;
 use instance::byte_at;
 use instance::word_at;
 
 pub const OPEN: u8 = 1;
+
 pub const RUN: u8 = 2;
+
 pub const REPORT: u8 = 3;
+
 pub const SWEEP: u8 = 4;
+
 pub const SHOW: u8 = 5;
+
 pub const READ: u8 = 6;
+
 const RESIZE: u8 = 20;
+
 const POKE: u8 = 21;
 
 // The one place where an op is chosen.
 pub fn judge(file: &[u8], op: u8, at: usize, sheet: &[u8]) -> Verdict {
     match op {
-        SHOW => verdict(show_agrees(file, at, sheet)),
-        READ => verdict(read_agrees(file, at, sheet)),
+        SHOW => judged(show_agrees(file, at, sheet)),
+        READ => judged(read_agrees(file, at, sheet)),
         _ => Verdict::Skipped,
     }
 }

@@ -6,8 +6,12 @@ pub enum Verdict {
     Skipped,
 }
 
-pub fn verdict(agreed: bool) -> Verdict {
-    if agreed { Verdict::Agreed } else { Verdict::Differed }
+pub fn judged(agreed: bool) -> Verdict {
+    if agreed {
+        Verdict::Agreed
+    } else {
+        Verdict::Differed
+    }
 }
 
 pub struct Tally {
