@@ -38,7 +38,8 @@ fn replay_cases(file: &[u8], first: usize, cases: u32) -> Tally {
     tally
 }
 
-// One case: its sheet, then the prior, the lengths of the four buffers and the number of its calls.
+// One case: its sheet, then the prior and the lengths of the four buffers, then the number of its calls. It counts
+// as gone through only where the file holds all of them.
 fn replay_case(file: &[u8], at: usize, tally: Tally) -> Progress {
     let from = after(file, at, 4);
     let to = past_bytes(file, at);
@@ -61,6 +62,7 @@ fn replay_case(file: &[u8], at: usize, tally: Tally) -> Progress {
     }
 }
 
+// The calls of one case, each past the last.
 fn replay_calls(file: &[u8], first: usize, calls: u32, sheet: &[u8], before: Tally) -> Progress {
     let mut tally = before;
     let mut at = first;
@@ -73,6 +75,7 @@ fn replay_calls(file: &[u8], first: usize, calls: u32, sheet: &[u8], before: Tal
     Progress { at, tally }
 }
 
+// One call.
 fn replay_call(file: &[u8], at: usize, sheet: &[u8], before: Tally) -> Tally {
     let op = byte_at(file, at);
     let verdict = ops::judge(file, op, after(file, at, 1), sheet);

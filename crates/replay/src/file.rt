@@ -29,7 +29,7 @@ pub fn number_at(file: &[u8], at: usize) -> u64 {
     low + 0x1_0000_0000 * high
 }
 
-// Whether the expected number at a place of the file is this one.
+// Whether the number that the file has `by` bytes past a place is this one.
 pub fn number_is(file: &[u8], at: usize, by: usize, value: u64) -> bool {
     number_at(file, after(file, at, by)) == value
 }

@@ -1,35 +1,35 @@
 -- The whole of it: of any list of runs and reports after an opening, what holds at each point and between any two.
 -- Assumes nothing.
 use mathlib.Core.Path.{_≡_, refl, sym, ap, _∙_}
-use mathlib.Core.Bool.{true, false, not, _&&_, _||_, or-true}
-use mathlib.Core.List.{List, [], _∷_, _++_}
+use mathlib.Core.Bool.{Bool, true, false, cond, not, _&&_, _||_, or-true}
+use mathlib.Core.List.{List, [], _∷_, _++_, append-assoc}
 use mathlib.Core.Logic.{_⊎_, inl, inr}
 use Prim.Native.Nat.{ℕ, _+_, _%_, _≤_, _<_}
 use native.Mathlib.Omega.{arith}
-use borrow.Author.Tests.{le-leb, leb-true, lt-ltb, ltb-true, ltb-false, eq-eqb, ne-eqb}
+use borrow.Author.Tests.{le-leb, lt-ltb, ltb-true, ltb-false, eq-eqb, ne-eqb, eqb-false}
 use lib.Dec.{eqb, ltb}
 use lib.ListN.{length, replicate}
 use lib.IntN.{ℤ, pos, natAbs}
 use lib.Signed.{leZ, _≤ℤ_}
 use Rattle.integers.specs.Places.{every}
-use Rattle.integers.specs.Checks.{within, below, firstFailure}
+use Rattle.integers.specs.Checks.{within, firstFailure}
 use Rattle.integers.proofs.Parts.{linear, sub}
 use Rattle.integers.proofs.Places.{by-test, by-cond, and-true, and-both, mem-range, every-mem, every-range, every-tabulate, every-replicate}
-use Rattle.integers.proofs.Checks.{below-at, below-all, failure-append}
+use Rattle.integers.proofs.Checks.{below-at, below-all, numbered, failure-append}
 use Rattle.instance.specs.Instance.{Instance, first, nodeCells, edgeCells}
 use Rattle.instance.specs.Sheet.{instanceOf, checks, refusalOf}
 use Rattle.instance.specs.Readable.{Proper}
 use Rattle.instance.proofs.Readable.{readable as sheet-readable}
 use Rattle.instance.proofs.Shown.{checks-numbered}
 use Rattle.rules.specs.Costs.{Buffers, costsOf, inRange, noneKept, opened, position, chosen, costIn, priceOf, Labelling, Matching}
-use Rattle.rules.specs.Run.{Ran}
+use Rattle.rules.specs.Run.{Ran, records, runList}
 use Rattle.rules.specs.Rounding.{free}
 use Rattle.rules.specs.Held.{Kept, boundIn, keptPrice, gap, Sound, Later, Held}
-use Rattle.rules.specs.Calls.{lengthsOk, isMatching, incumbentOk, lentChecks, lentRefusal, runRefusal, runOf, Report, refused, bound, kept, told, reportOf, Call, run, report, Answer, opening, ran, reported, Point, next, rules, points}
+use Rattle.rules.specs.Calls.{lengthsOk, isMatching, incumbentOk, lentChecks, lentRefusal, runRefusal, runOf, bound, kept, told, reportOf, Call, run, report, Point, next, rules, points}
 use Rattle.rules.specs.Demand.{Tells, Answers, At, After, Each, Holds}
 use Rattle.rules.proofs.Bound.{bound-le}
 use Rattle.rules.proofs.Rounding.{kept-matching}
-use Rattle.rules.proofs.Run.{later-refl, later-trans, list-later, list-range, opened-sound, opened-cost}
+use Rattle.rules.proofs.Run.{later-refl, later-trans, list-later, list-range, run-number, opened-sound, opened-cost}
 
 -- ---- the test of a lent matching, both ways
 
@@ -165,7 +165,8 @@ module _ (s : List ℕ) (readable : refusalOf s ≡ 0) where
         (every-replicate (within limit) (nodeCells I) (pos 0) (le-leb 0 limit (omega arith))))
         (every-tabulate (within limit) (edgeCells I) (I .edgePrice) (λ j h. in-range (I .edgePrice j) (proper .edgePriced j h)))
 
-    ranged : (cs : List Call) → Under limit cs → inRange limit (rules s cs .buffers) ≡ true
+    -- every cost stays within it
+    pub ranged : (cs : List Call) → Under limit cs → inRange limit (rules s cs .buffers) ≡ true
     unfolding rules next runOf
     ranged [] u = opened-range
     ranged (run k l ∷ cs) (e, u) =
@@ -186,11 +187,23 @@ module _ (s : List ℕ) (readable : refusalOf s ≡ 0) where
   unfolding lengthsOk
   lengths-ok {b} z = and-both (and-both (and-both (eq-eqb _ _ (z .sized .nodes)) (eq-eqb _ _ (z .sized .labels))) (eq-eqb _ _ (z .sized .edges))) (eq-eqb _ _ (z .sized .incumbent))
 
+  numbers : (limit : ℕ) (b : Buffers) → numbered (checks s ++ lentChecks I limit b) ≡ true
+  unfolding checks lentChecks every
+  numbers limit b = refl
+
   pub lent-well : (limit : ℕ) → 1_000_000 ≤ limit → (cs : List Call) → Under limit cs → lentRefusal s limit (rules s cs .buffers) ≡ 0
   unfolding lentRefusal lentChecks firstFailure refusalOf
   lent-well limit wide cs u =
       failure-append (checks s) (lentChecks I limit (rules s cs .buffers)) (checks-numbered s)
       ∙ rw (readable, lengths-ok (sound cs), ranged limit wide cs u, incumbent-ok (sound cs))
+
+  -- a run's checks are a report's, and then 11
+  pub run-refusal-by : (limit : ℕ) (b : Buffers) (l : List ℕ) → runRefusal s limit b l ≡ cond (eqb (lentRefusal s limit b) 0) (cond (eqb (length l % 5) 0) 0 11) (lentRefusal s limit b)
+  unfolding runRefusal lentRefusal firstFailure
+  run-refusal-by limit b l =
+      let ragged : List (Bool × ℕ) = (eqb (length l % 5) 0, 11) ∷ [] in
+      ap firstFailure (sym (append-assoc (checks s) (lentChecks I limit b) ragged))
+      ∙ failure-append (checks s ++ lentChecks I limit b) ragged (numbers limit b)
 
   -- so a report answers
   pub report-told : (limit : ℕ) → 1_000_000 ≤ limit → (cs : List Call) → Under limit cs → (noneKept (rules s cs .buffers .incumbent) ≡ true → reportOf s limit (rules s cs .buffers) ≡ bound (boundIn I (rules s cs .buffers)))
@@ -204,3 +217,25 @@ module _ (s : List ℕ) (readable : refusalOf s ≡ 0) where
             let z : leZ (boundIn I b) (keptPrice I b) ≡ true = by-test (leZ (boundIn I b) (keptPrice I b)) (λ e. e) (λ e. absurd (omega linear)) in
             rw (w, t, z),
       )
+
+  -- and a run is refused with 11, 12 or 13 alone
+  pub run-refused : (limit : ℕ) → 1_000_000 ≤ limit → (cs : List Call) → Under limit cs → (l : List ℕ)
+      → let r = runOf s limit (rules s cs .buffers) l .refusal in (r ≡ 0) ⊎ ((r ≡ 11) ⊎ ((r ≡ 12) ⊎ (r ≡ 13)))
+  unfolding runOf runList
+  run-refused limit wide cs u l =
+      let b = rules s cs .buffers in
+      by-cond (λ (q : Ran). (q .refusal ≡ 0) ⊎ ((q .refusal ≡ 11) ⊎ ((q .refusal ≡ 12) ⊎ (q .refusal ≡ 13)))) (eqb (runRefusal s limit b l) 0)
+      (λ _. own (run-number I proper limit b (records l)))
+      (λ t. inr (inl (by-test (eqb (length l % 5) 0)
+      (λ d. absurd (eqb-false (runRefusal s limit b l) 0 t (ragged b l d (lent-well limit wide cs u))))
+      (λ d. ragged-is b l d (lent-well limit wide cs u)))))
+    where
+      own : {n : ℕ} → (n ≡ 0) ⊎ ((n ≡ 12) ⊎ (n ≡ 13)) → (n ≡ 0) ⊎ ((n ≡ 11) ⊎ ((n ≡ 12) ⊎ (n ≡ 13)))
+      own (inl e) = inl e
+      own (inr e) = inr (inr e)
+
+      ragged : (b : Buffers) (l : List ℕ) → eqb (length l % 5) 0 ≡ true → lentRefusal s limit b ≡ 0 → runRefusal s limit b l ≡ 0
+      ragged b l d w = run-refusal-by limit b l ∙ rw (w, d)
+
+      ragged-is : (b : Buffers) (l : List ℕ) → eqb (length l % 5) 0 ≡ false → lentRefusal s limit b ≡ 0 → runRefusal s limit b l ≡ 11
+      ragged-is b l d w = run-refusal-by limit b l ∙ rw (w, d)

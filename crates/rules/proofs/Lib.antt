@@ -9,3 +9,4 @@ pub mod Calls
 pub mod Bridge
 pub mod Loops
 pub mod Limits
+pub mod WrongTurns

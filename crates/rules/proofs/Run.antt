@@ -196,6 +196,34 @@ module _ (I : Instance) where
           go (refused number) h f = later-refl b
           go (done b′ n) h f = f b′ (h .0)
 
+      -- a record is refused with 12 or 13, and so is a run by its records
+      abbrev Numbered : Outcome → Type 0
+      Numbered (refused number) = (number ≡ 12) ⊎ (number ≡ 13)
+      Numbered (done b′ s) = Unit {0}
+
+      effect-number : (b : Buffers) (kind : Kind) (u k r : ℕ) → Numbered (effect I limit b kind u k r)
+      unfolding effect checked rounded
+      effect-number b (message m) u k r =
+          by-cond Numbered (legalMessage I m u k r) (λ _. by-cond Numbered (inRange limit (shift (deltas I (costsOf b) m u k r) b)) (λ _. tt) (λ _. inr refl)) (λ _. inl refl)
+      effect-number b rounding u k r = by-cond Numbered (eqb u 0 && eqb k 0 && eqb r 0) (λ _. go (round I (costsOf b))) (λ _. inl refl)
+        where
+          go : (o : Option (List ℕ)) → Numbered (rounded I b o)
+          go none = tt
+          go (some x) = tt
+      effect-number b unknown u k r = inl refl
+
+      pub run-number : (b : Buffers) (l : List Record) → (run I limit b l .refusal ≡ 0) ⊎ ((run I limit b l .refusal ≡ 12) ⊎ (run I limit b l .refusal ≡ 13))
+      unfolding run proceed
+      run-number b [] = inl refl
+      run-number b (r ∷ l) = go (step I limit b r) (effect-number b (r .kind) (r .node) (r .index) (r .share)) (λ b′. run-number b′ l)
+        where
+          Number : ℕ → Type 0
+          Number n = (n ≡ 0) ⊎ ((n ≡ 12) ⊎ (n ≡ 13))
+
+          go : (o : Outcome) → Numbered o → ((b′ : Buffers) → Number (run I limit b′ l .refusal)) → Number (proceed b o (λ b′. run I limit b′ l) .refusal)
+          go (refused number) h f = inr h
+          go (done b′ n) h f = f b′
+
       -- every cost stays within the limit
       effect-range : (b : Buffers) (kind : Kind) (u k r : ℕ) → inRange limit b ≡ true → Ranged (effect I limit b kind u k r)
       unfolding effect checked rounded inRange

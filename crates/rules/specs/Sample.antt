@@ -18,7 +18,7 @@ use Rattle.rules.specs.Costs.{Buffers, inRange, noneKept, opened, nodeLe
 use Rattle.rules.specs.Messages.{toLabel, toEdge, deltas, filled}
 use Rattle.rules.specs.Rounding.{bestFrom, best, free, key, choice, roundBelow, adopt}
 use Rattle.rules.specs.Run.{proceed, rounded, kindOf, records, legalShare, legalEdge, legalPosition, legalMessage, checked, effect, run as runRecords, runList}
-use Rattle.rules.specs.Calls.{lengthsOk, isMatching, incumbentOk, lentChecks, Report, refused, bound, kept, openRefusal, openOf, lentRefusal, runRefusal, runOf, told, reportOf, Call, run, report, Answer, opening, ran, reported, next, rules}
+use Rattle.rules.specs.Calls.{lengthsOk, isMatching, incumbentOk, lentChecks, refused, bound, kept, openRefusal, openOf, lentRefusal, runRefusal, runOf, told, reportOf, Call, run, report, Answer, opening, ran, reported, next, rules}
 
 -- "Records (kind, node, index, share)"
 abbrev pub sampleRecords : List ℕ
