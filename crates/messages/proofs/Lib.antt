@@ -1,0 +1,3 @@
+-- Laws of the code that moves costs.
+pub mod RowLaws
+pub mod Sight

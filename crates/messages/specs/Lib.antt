@@ -1,0 +1,2 @@
+-- What the contracts of the code that moves costs cite besides the rules.
+pub mod World

@@ -1,0 +1,3 @@
+// Moving costs: opening, running a list of records, reporting. Document 01, "The costs that move", "Records", "Reporting".
+mod rows;
+mod world;

@@ -1,0 +1,97 @@
+// Rows of costs: the least of a row, a cost's least rival, shares of a distance, and whether costs lie within the limit.
+ghost use mathlib.Core.Path.{_≡_};
+ghost use Prim.Native.Nat.{_≤_, _<_};
+ghost use lib.ListN.{length, getD};
+ghost use lib.IntN.{pos};
+ghost use Rattle.integers.specs.Least.{minℤ, leastFrom, leastOf, without};
+ghost use Rattle.integers.specs.Share.{share, amount};
+ghost use Rattle.integers.specs.Sum.{Within};
+ghost use Rattle.integers.specs.Places.{every};
+ghost use Rattle.integers.specs.Checks.{within};
+ghost use Rattle.rules.specs.Calls.{filmOut};
+
+// The less of two.
+pub(crate) fn smaller(a: i64, b: i64) -> i64
+    ensures { λ r. ⌜ r ≡ minℤ a b ⌝ }
+{
+    if a < b { a } else { b }
+}
+
+// The least of `start` and the costs of a row.
+pub(crate) fn least(row: &[i64], start: i64) -> i64
+    ensures { λ r. ⌜ r ≡ leastFrom start (now (row .entry)) ⌝ }
+{
+    let mut best = start;
+    let mut i = 0;
+    while i < row.len() {
+        best = smaller(row[i], best);
+        i += 1;
+    }
+    best
+}
+
+// The least cost of a row.
+pub(crate) fn least_of(row: &[i64]) -> i64
+    requires { ⌜ 0 < length (now row) ⌝ }
+    ensures { λ r. ⌜ r ≡ leastOf (now (row .entry)) ⌝ }
+{
+    least(&row[1..], row[0])
+}
+
+// The least of the other costs of a row.
+pub(crate) fn rival(row: &[i64], k: usize) -> i64
+    requires { ⌜ (k < length (now row)) × (1 < length (now row)) ⌝ }
+    ensures { λ r. ⌜ r ≡ leastOf (without (now (row .entry)) k) ⌝ }
+{
+    if k == 0 {
+        return least_of(&row[1..]);
+    }
+    let next = k + 1;
+    least(&row[next..], least_of(&row[..k]))
+}
+
+// One r-th of the distance `d`, rounded toward zero.
+pub(crate) fn share_of(d: i64, r: u8) -> i64
+    requires { ⌜ 1 ≤ r ⌝ }
+    ensures { λ p. ⌜ p ≡ share d r ⌝ }
+{
+    d / (r as i64)
+}
+
+// No cost passes this, up or down.
+const LIMIT: i64 = 0x100_0000_0000;
+
+// Whether a cost lies within the limit. The smallest i64 is no special case.
+pub(crate) fn in_range(cost: i64) -> bool
+    ensures { λ r. ⌜ r ≡ within filmOut cost ⌝ }
+{
+    if cost < -LIMIT { false } else { cost <= LIMIT }
+}
+
+// Whether each cost does.
+pub(crate) fn all_in_range(costs: &[i64]) -> bool
+    ensures { λ r. ⌜ r ≡ every (within filmOut) (now (costs .entry)) ⌝ }
+{
+    let mut i = 0;
+    while i < costs.len() {
+        if in_range(costs[i]) {
+            i += 1;
+        } else {
+            return false;
+        }
+    }
+    true
+}
+
+// What the cost at `k` gives against the others of its row: a share of its distance from the least of them, and 0 with no other.
+pub(crate) fn amount_of(row: &[i64], k: usize, share: u8) -> i64
+    requires { ⌜ k < length (now row) ⌝ }
+    requires { ⌜ 1 ≤ share ⌝ }
+    requires { ⌜ Within filmOut (now row) ⌝ }
+    ensures { λ p. ⌜ p ≡ amount (getD (now (row .entry)) k (pos 0)) (without (now (row .entry)) k) share ⌝ }
+{
+    if row.len() < 2 {
+        return 0;
+    }
+    share_of(row[k] - rival(row, k), share)
+}
