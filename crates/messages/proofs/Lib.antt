@@ -1,3 +1,5 @@
 -- Laws of the code that moves costs.
 pub mod RowLaws
 pub mod Sight
+pub mod FillLaws
+pub mod OpenLaws

@@ -1,0 +1,56 @@
+-- `fill_zero` meets its contract.
+use Prim.Native.Nat.{ℕ, _+_, _-_, _*_}
+use native.Mathlib.Omega.{arith}
+use mathlib.Core.Path.{ap, sym, _∙_}
+use borrow.Author.Needs.{needs}
+use lib.ListN.{length, set}
+use lib.IntN.{ℤ, pos}
+use denote.Ref.{now}
+use Rattle.messages.proofs.FillLaws.{Filling, fill-none, fill-more, fill-all, tabulate-same}
+use Rattle.messages.proofs.filling.fill_zero.Statement.{statement}
+use Rattle.messages.proofs.filling.fill_zero.Tie as tie
+
+abbrev Inv-loop : tie.InvT-loop
+Inv-loop costs₀ i₀ costs i = Filling (λ k. pos 0) costs₀ costs i
+
+abbrev μ-loop : tie.MeasureT-loop
+μ-loop costs₀ i₀ costs i = length costs₀ - i
+
+loop-holds : tie.Need-loop-holds Inv-loop μ-loop
+loop-holds c = fill-none (λ k. pos 0) _
+
+mul-costs : tie.Need-mul-costs Inv-loop μ-loop
+mul-costs c = omega arith
+
+slice-set-of-costs : tie.Need-slice-set-of-costs Inv-loop μ-loop
+slice-set-of-costs c = omega arith
+
+add-i : tie.Need-add-i Inv-loop μ-loop
+add-i c = omega arith
+
+loop-less : tie.Need-loop-less Inv-loop μ-loop
+loop-less c = omega arith
+
+loop-again : tie.Need-loop-again Inv-loop μ-loop
+loop-again c = fill-more (λ k. pos 0) (pos 0) (c .before .loop .inv) (omega arith)
+
+same-length : tie.Need-same-length Inv-loop μ-loop
+same-length c = search needs
+
+returns : tie.Need-returns Inv-loop μ-loop
+returns c = fill-all (λ k. pos 0) (c .before .loop .inv) (omega arith) ∙ tabulate-same (length (now (c .before .before .args .costs))) (pos 0)
+
+pub fill-zero-spec : {M : Type 1} → statement M
+fill-zero-spec =
+    tie.close
+    (tie.spec
+    Inv-loop
+    μ-loop
+    loop-holds
+    mul-costs
+    slice-set-of-costs
+    add-i
+    loop-less
+    loop-again
+    same-length
+    returns)
