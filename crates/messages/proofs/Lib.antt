@@ -3,3 +3,5 @@ pub mod RowLaws
 pub mod Sight
 pub mod FillLaws
 pub mod OpenLaws
+pub mod SumLaws
+pub mod BoundLaws

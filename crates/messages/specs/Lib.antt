@@ -1,2 +1,3 @@
 -- What the contracts of the code that moves costs cite besides the rules.
 pub mod World
+pub mod Bounds

@@ -1,4 +1,5 @@
 // Moving costs: opening, running a list of records, reporting. Document 01, "The costs that move", "Records", "Reporting".
+mod bound;
 mod filling;
 mod opening;
 mod rows;

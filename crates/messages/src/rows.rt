@@ -2,7 +2,9 @@
 ghost use mathlib.Core.Path.{_≡_};
 ghost use Prim.Native.Nat.{_≤_, _<_};
 ghost use lib.ListN.{length, getD};
-ghost use lib.IntN.{pos};
+ghost use lib.IntN.{pos, _+ℤ_};
+ghost use mir.Syntax.{w64};
+ghost use mir.Val.{SFits};
 ghost use Rattle.integers.specs.Least.{minℤ, leastFrom, leastOf, without};
 ghost use Rattle.integers.specs.Share.{share, amount};
 ghost use Rattle.integers.specs.Sum.{Within};
@@ -15,6 +17,14 @@ pub(crate) fn smaller(a: i64, b: i64) -> i64
     ensures { λ r. ⌜ r ≡ minℤ a b ⌝ }
 {
     if a < b { a } else { b }
+}
+
+// A sum that fits.
+pub(crate) fn plus(a: i64, b: i64) -> i64
+    requires { ⌜ SFits w64 (a +ℤ b) ⌝ }
+    ensures { λ r. ⌜ r ≡ a +ℤ b ⌝ }
+{
+    a + b
 }
 
 // The least of `start` and the costs of a row.

@@ -1,0 +1,67 @@
+// The bound: the sum of each node's least cost, each edge's least cell, and for each label the least of 0 and its label costs.
+use crate::rows::least_of;
+use crate::rows::plus;
+use crate::rows::smaller;
+use crate::world::wide;
+ghost use mathlib.Core.Path.{_≡_};
+ghost use Prim.Native.Nat.{_+_, _≤_, _<_};
+ghost use lib.ListN.{length, getD};
+ghost use lib.IntN.{pos};
+ghost use Rattle.integers.specs.Sum.{Within};
+ghost use Rattle.integers.specs.Places.{total};
+ghost use Rattle.instance.specs.Sheet.{instanceOf};
+ghost use Rattle.instance.specs.Instance.{nodeCells, tableSize, edgeCells};
+ghost use Rattle.rules.specs.Calls.{filmOut};
+ghost use Rattle.messages.specs.World.{Known};
+ghost use Rattle.messages.specs.Bounds.{rowLeast, tableLeast};
+
+// Each node's least cost.
+fn node_sum(sheet: &[u8], n: usize, ends: usize, nodes: &[i64]) -> i64
+    requires { ⌜ Known (now sheet) n ends ⌝ }
+    requires { ⌜ length (now nodes) ≡ nodeCells (instanceOf (now sheet)) ⌝ }
+    requires { ⌜ Within filmOut (now nodes) ⌝ }
+    ensures { λ r. ⌜ r ≡ total n (rowLeast (instanceOf (now (sheet .entry))) (now (nodes .entry))) ⌝ }
+{
+    let mut sum = 0;
+    let mut at = 0;
+    let mut u = 0;
+    while u < n {
+        let to = at + wide(sheet[u]);
+        sum = plus(sum, least_of(&nodes[at..to]));
+        at = to;
+        u += 1;
+    }
+    sum
+}
+
+// How many cells edge `e` has.
+pub(crate) fn cells_of(sheet: &[u8], n: usize, ends: usize, e: usize) -> usize
+    requires { ⌜ Known (now sheet) n ends ⌝ }
+    requires { ⌜ e < instanceOf (now sheet) .edgeCount ⌝ }
+    ensures { λ r. ⌜ r ≡ tableSize (instanceOf (now (sheet .entry))) e ⌝ }
+{
+    let at = ends + 2 * e;
+    let u = wide(sheet[at]);
+    let v = wide(sheet[at + 1]);
+    wide(sheet[u]) * wide(sheet[v])
+}
+
+// Each edge's least cell.
+fn edge_sum(sheet: &[u8], n: usize, ends: usize, count: usize, edges: &[i64]) -> i64
+    requires { ⌜ Known (now sheet) n ends ⌝ }
+    requires { ⌜ count ≡ instanceOf (now sheet) .edgeCount ⌝ }
+    requires { ⌜ length (now edges) ≡ edgeCells (instanceOf (now sheet)) ⌝ }
+    requires { ⌜ Within filmOut (now edges) ⌝ }
+    ensures { λ r. ⌜ r ≡ total count (tableLeast (instanceOf (now (sheet .entry))) (now (edges .entry))) ⌝ }
+{
+    let mut sum = 0;
+    let mut at = 0;
+    let mut e = 0;
+    while e < count {
+        let to = at + cells_of(sheet, n, ends, e);
+        sum = plus(sum, least_of(&edges[at..to]));
+        at = to;
+        e += 1;
+    }
+    sum
+}
