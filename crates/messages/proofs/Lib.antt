@@ -5,3 +5,4 @@ pub mod FillLaws
 pub mod OpenLaws
 pub mod SumLaws
 pub mod BoundLaws
+pub mod LabelLaws

@@ -13,7 +13,7 @@ ghost use Rattle.instance.specs.Sheet.{instanceOf};
 ghost use Rattle.instance.specs.Instance.{nodeCells, tableSize, edgeCells};
 ghost use Rattle.rules.specs.Calls.{filmOut};
 ghost use Rattle.messages.specs.World.{Known};
-ghost use Rattle.messages.specs.Bounds.{rowLeast, tableLeast};
+ghost use Rattle.messages.specs.Bounds.{rowLeast, tableLeast, leastLabels};
 
 // Each node's least cost.
 fn node_sum(sheet: &[u8], n: usize, ends: usize, nodes: &[i64]) -> i64
@@ -62,6 +62,38 @@ fn edge_sum(sheet: &[u8], n: usize, ends: usize, count: usize, edges: &[i64]) ->
         sum = plus(sum, least_of(&edges[at..to]));
         at = to;
         e += 1;
+    }
+    sum
+}
+
+// For each label the least of 0 and its label costs.
+fn label_leasts(sheet: &[u8], n: usize, ends: usize, positions: usize, labels: &[i64]) -> [i64; 64]
+    requires { ⌜ Known (now sheet) n ends ⌝ }
+    requires { ⌜ positions ≡ nodeCells (instanceOf (now sheet)) ⌝ }
+    requires { ⌜ length (now labels) ≡ positions ⌝ }
+    ensures { λ r. ⌜ r ≡ leastLabels (instanceOf (now (sheet .entry))) (now (labels .entry)) positions ⌝ }
+{
+    let mut least = [0i64; 64];
+    let mut i = 0;
+    while i < positions {
+        let l = wide(sheet[n + i]);
+        least[l] = smaller(labels[i], least[l]);
+        i += 1;
+    }
+    least
+}
+
+// The sum of the first `count`.
+fn label_sum(least: &[i64; 64], count: usize) -> i64
+    requires { ⌜ count ≤ 64 ⌝ }
+    requires { ⌜ Within filmOut (now least) ⌝ }
+    ensures { λ r. ⌜ r ≡ total count (λ l. getD (now (least .entry)) l (pos 0)) ⌝ }
+{
+    let mut sum = 0;
+    let mut l = 0;
+    while l < count {
+        sum = plus(sum, least[l]);
+        l += 1;
     }
     sum
 }
