@@ -6,3 +6,5 @@ pub mod OpenLaws
 pub mod SumLaws
 pub mod BoundLaws
 pub mod LabelLaws
+pub mod LabelMoveLaws
+pub mod IncumbentLaws

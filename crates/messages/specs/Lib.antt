@@ -1,3 +1,5 @@
 -- What the contracts of the code that moves costs cite besides the rules.
 pub mod World
 pub mod Bounds
+pub mod LabelMessage
+pub mod Incumbent

@@ -11,8 +11,10 @@ ghost use Rattle.integers.specs.Sum.{Within};
 ghost use Rattle.integers.specs.Places.{total};
 ghost use Rattle.instance.specs.Sheet.{instanceOf};
 ghost use Rattle.instance.specs.Instance.{nodeCells, tableSize, edgeCells};
+ghost use mathlib.Core.List.{[]};
+ghost use Rattle.rules.specs.Held.{boundIn};
 ghost use Rattle.rules.specs.Calls.{filmOut};
-ghost use Rattle.messages.specs.World.{Known};
+ghost use Rattle.messages.specs.World.{Known, Counted, Fit, lent};
 ghost use Rattle.messages.specs.Bounds.{rowLeast, tableLeast, leastLabels};
 
 // Each node's least cost.
@@ -96,4 +98,28 @@ fn label_sum(least: &[i64; 64], count: usize) -> i64
         l += 1;
     }
     sum
+}
+
+// The bound of the lent costs.
+pub(crate) fn lower_bound(
+    sheet: &[u8],
+    n: usize,
+    ends: usize,
+    positions: usize,
+    known: usize,
+    count: usize,
+    nodes: &[i64],
+    labels: &[i64],
+    edges: &[i64],
+) -> i64
+    requires { ⌜ Known (now sheet) n ends ⌝ }
+    requires { ⌜ Counted (now sheet) positions known count ⌝ }
+    requires { ⌜ Fit (now sheet) (now nodes) (now labels) (now edges) ⌝ }
+    ensures { λ r. ⌜ r ≡ boundIn (instanceOf (now (sheet .entry))) (lent (now (nodes .entry)) (now (labels .entry)) (now (edges .entry)) []) ⌝ }
+{
+    let least = label_leasts(sheet, n, ends, positions, labels);
+    let by_label = label_sum(&least, known);
+    let by_node = node_sum(sheet, n, ends, nodes);
+    let by_edge = edge_sum(sheet, n, ends, count, edges);
+    plus(plus(by_node, by_edge), by_label)
 }

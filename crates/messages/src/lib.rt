@@ -1,6 +1,8 @@
 // Moving costs: opening, running a list of records, reporting. Document 01, "The costs that move", "Records", "Reporting".
 mod bound;
 mod filling;
+mod incumbent;
+mod label_message;
 mod opening;
 mod rows;
 mod world;

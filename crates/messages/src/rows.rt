@@ -2,7 +2,7 @@
 ghost use mathlib.Core.Path.{_≡_};
 ghost use Prim.Native.Nat.{_≤_, _<_};
 ghost use lib.ListN.{length, getD};
-ghost use lib.IntN.{pos, _+ℤ_};
+ghost use lib.IntN.{pos, _+ℤ_, _-ℤ_};
 ghost use mir.Syntax.{w64};
 ghost use mir.Val.{SFits};
 ghost use Rattle.integers.specs.Least.{minℤ, leastFrom, leastOf, without};
@@ -25,6 +25,14 @@ pub(crate) fn plus(a: i64, b: i64) -> i64
     ensures { λ r. ⌜ r ≡ a +ℤ b ⌝ }
 {
     a + b
+}
+
+// A difference that fits.
+pub(crate) fn minus(a: i64, b: i64) -> i64
+    requires { ⌜ SFits w64 (a -ℤ b) ⌝ }
+    ensures { λ r. ⌜ r ≡ a -ℤ b ⌝ }
+{
+    a - b
 }
 
 // The least of `start` and the costs of a row.

@@ -1,0 +1,19 @@
+-- `none_kept` meets its contract.
+use mathlib.Core.Path.{_∙_}
+use denote.Ref.{now}
+use Rattle.messages.proofs.IncumbentLaws.{none-empty, none-some}
+use borrow.Author.Needs.{needs}
+use Rattle.messages.proofs.incumbent.none_kept.Statement.{statement}
+use Rattle.messages.proofs.incumbent.none_kept.Tie as tie
+
+returns : tie.Need-returns
+returns c = none-empty (now (c .before .before .args .x)) (c .if1 .taken)
+
+all-none-requires : tie.Need-all-none-requires
+all-none-requires c κs = search needs
+
+returns-2 : tie.Need-returns-2
+returns-2 c = c .all-none .ensures ∙ none-some (now (c .before .before .before .args .x)) (c .before .if1 .left)
+
+pub none-kept-spec : {M : Type 1} → statement M
+none-kept-spec = tie.close (tie.spec returns all-none-requires returns-2)
