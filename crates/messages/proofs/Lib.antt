@@ -8,3 +8,6 @@ pub mod BoundLaws
 pub mod LabelLaws
 pub mod LabelMoveLaws
 pub mod IncumbentLaws
+pub mod OverLaws
+pub mod EdgeLaws
+pub mod RivalLaws

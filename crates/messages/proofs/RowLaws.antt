@@ -24,7 +24,7 @@ use Rattle.integers.proofs.Rows.{length-without}
 use Rattle.rules.specs.Calls.{filmOut}
 
 -- two parts in either order
-least-parts : (x : ℤ) (a b : List ℤ) → leastFrom (leastFrom x b) a ≡ leastFrom (leastFrom x a) b
+pub least-parts : (x : ℤ) (a b : List ℤ) → leastFrom (leastFrom x b) a ≡ leastFrom (leastFrom x a) b
 unfolding leastFrom
 least-parts x [] b = refl
 least-parts x (y ∷ a) b = ap (minℤ y) (least-parts x a b) ∙ sym (least-min y (leastFrom x a) b)

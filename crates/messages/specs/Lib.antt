@@ -3,3 +3,5 @@ pub mod World
 pub mod Bounds
 pub mod LabelMessage
 pub mod Incumbent
+pub mod EdgeMessage
+pub mod Step

@@ -10,13 +10,21 @@ ghost use mathlib.Core.Path.{_≡_};
 ghost use Prim.Native.Nat.{ℕ, suc, _+_, _*_, _^_, _≤_, _<_};
 ghost use lib.ListN.{length, getD};
 ghost use lib.IntN.{pos, natAbs};
+ghost use Rattle.integers.specs.Least.{leastFrom};
 ghost use Rattle.integers.specs.Sum.{Within};
 ghost use Rattle.instance.specs.Bytes.{byte};
 ghost use Rattle.instance.specs.Sheet.{instanceOf};
 ghost use Rattle.instance.specs.Instance.{first, nodeCells};
 ghost use Rattle.rules.specs.Calls.{filmOut};
 ghost use Rattle.messages.specs.World.{Known, Seen, Fit};
-ghost use Rattle.messages.specs.LabelMessage.{labelMoved, labelMove, labelRival, Found};
+ghost use Rattle.messages.specs.LabelMessage.{labelMoved, labelMove, rivalsAt, labelRival, Owned, Found};
+
+// A place with its node and its label.
+struct Own {
+    node: usize,
+    place: usize,
+    label: usize,
+}
 
 // Moves `p` from the node cost to the label cost at the place `i`, where both stay within the limit.
 fn shift_label(nodes: &mut [i64], labels: &mut [i64], i: usize, p: i64) -> u8
@@ -56,4 +64,42 @@ fn find_label(sheet: &[u8], at: usize, degree: usize, label: usize) -> usize
         k += 1;
     }
     degree
+}
+
+// The least of `best` and node `w`'s cost of the label, unless `w` is the node `u` of the place itself.
+fn meet_label(sheet: &[u8], n: usize, ends: usize, labels: &[i64], w: usize, at: usize, own: Own, best: i64) -> i64
+    requires { ⌜ Known (now sheet) n ends ⌝ }
+    requires { ⌜ length (now labels) ≡ nodeCells (instanceOf (now sheet)) ⌝ }
+    requires { ⌜ (w < n) × (at ≡ first (instanceOf (now sheet)) w) ⌝ }
+    requires { ⌜ Owned (now sheet) (own .node) (own .place) (own .label) ⌝ }
+    ensures { λ r. ⌜ r ≡ leastFrom best (rivalsAt (instanceOf (now (sheet .entry))) (now (labels .entry)) (own .place) w) ⌝ }
+{
+    if w == own.node {
+        return best;
+    }
+    let degree = wide(sheet[w]);
+    let j = find_label(sheet, n + at, degree, own.label);
+    if j < degree {
+        smaller(labels[at + j], best)
+    } else {
+        best
+    }
+}
+
+// The least of 0 and the label's costs at other nodes.
+fn label_rival(sheet: &[u8], n: usize, ends: usize, labels: &[i64], own: Own) -> i64
+    requires { ⌜ Known (now sheet) n ends ⌝ }
+    requires { ⌜ length (now labels) ≡ nodeCells (instanceOf (now sheet)) ⌝ }
+    requires { ⌜ Owned (now sheet) (own .node) (own .place) (own .label) ⌝ }
+    ensures { λ r. ⌜ r ≡ labelRival (instanceOf (now (sheet .entry))) (now (labels .entry)) (own .place) ⌝ }
+{
+    let mut best = 0;
+    let mut at = 0;
+    let mut w = 0;
+    while w < n {
+        best = meet_label(sheet, n, ends, labels, w, at, own, best);
+        at += wide(sheet[w]);
+        w += 1;
+    }
+    best
 }

@@ -1,0 +1,63 @@
+-- Messages between one row of node costs and one edge's table of cells: what is given, and both lists once it is given. Document 01, kinds 1 and 2.
+use mathlib.Core.Path.{_≡_}
+use mathlib.Core.Bool.{Bool, cond}
+use mathlib.Core.List.{List, map}
+use Prim.Native.Nat.{ℕ, _+_, _*_, _/_, _%_, _≤_}
+use lib.Dec.{eqb, ltb}
+use lib.ListN.{length, getD}
+use lib.IntN.{ℤ, pos, negℤ, natAbs, _-ℤ_}
+use lib.Signed.{_≤ℤ_}
+use Rattle.integers.specs.Least.{leastOf}
+use Rattle.integers.specs.Share.{shareDown, excess}
+use Rattle.integers.specs.Places.{tabulate, select, range}
+use Rattle.integers.proofs.Ranges.{shifted}
+use Rattle.rules.specs.Calls.{filmOut}
+
+-- where u stands in the cell j: rows for the lower end, columns for the higher
+abbrev pub positionIn : Bool → ℕ → ℕ → ℕ
+positionIn byRow width j = cond byRow (j / width) (j % width)
+
+-- kind 1: for each position its distance from the node's least, one r-th, rounded down; 16 places, the rest 0
+unfoldable pub nodeAmounts : List ℤ → ℕ → List ℤ
+nodeAmounts row r = tabulate 16 (λ k. cond (ltb k (length row)) (shareDown (getD row k (pos 0) -ℤ leastOf row) r) (pos 0))
+
+-- kind 2 is kind 1 turned round, so the amounts are negated: for each position of u the distance of the least cell there from the least of all
+unfoldable pub edgeAmounts : Bool → ℕ → List ℤ → ℕ → List ℤ
+edgeAmounts byRow width cells r =
+    tabulate 16 (λ k. negℤ (excess (map (λ j. getD cells j (pos 0)) (select (λ j. eqb (positionIn byRow width j) k) (range 0 (length cells)))) (leastOf cells) r))
+
+-- the node's costs once the amounts are given away
+abbrev pub movedRow : List ℤ → List ℤ → List ℤ
+movedRow amounts row = shifted (λ k. negℤ (getD amounts k (pos 0))) row
+
+-- the edge's cells once each has received the amount at its position
+abbrev pub movedCells : Bool → ℕ → List ℤ → List ℤ → List ℤ
+movedCells byRow width amounts cells = shifted (λ j. getD amounts (positionIn byRow width j) (pos 0)) cells
+
+-- the table of an edge: `height` rows of `width` cells
+pub record Shape (width height : ℕ) (cells : List ℤ) : Type 0 where
+  pub wide : 1 ≤ width
+  pub narrow : width ≤ 16
+  pub high : 1 ≤ height
+  pub low : height ≤ 16
+  pub size : length cells ≡ height * width
+
+-- ---- what the functions on the way cite
+
+-- a cost at or above the least
+pub record Above (low cost : ℤ) : Type 0 where
+  pub order : low ≤ℤ cost
+  pub least : natAbs low ≤ filmOut
+  pub most : natAbs cost ≤ filmOut
+
+-- a list of which the first n elements are f of their places, and the others are as they were
+unfoldable pub over : (ℕ → ℤ) → ℕ → List ℤ → List ℤ
+over f n l = tabulate (length l) (λ k. cond (ltb k n) (f k) (getD l k (pos 0)))
+
+-- one row of the table, the k-th, once it has received its amounts: one for all its cells, or one for each column
+abbrev pub movedLine : Bool → ℕ → List ℤ → List ℤ → List ℤ
+movedLine byRow k amounts line = shifted (λ j. getD amounts (cond byRow k j) (pos 0)) line
+
+-- the least of the column k of a table of n rows
+abbrev pub columnLeast : List ℤ → ℕ → ℕ → ℕ → ℤ
+columnLeast cells width n k = leastOf (map (λ r. getD cells (width * r + k) (pos 0)) (range 0 n))
