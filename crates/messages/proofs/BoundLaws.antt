@@ -30,7 +30,7 @@ use Rattle.rules.specs.Places.{nodePlaces, labelPlaces, edgePlaces}
 use Rattle.rules.specs.Costs.{Buffers, costsOf, nodeLeast, edgeLeast, labelLeast}
 use Rattle.messages.specs.World.{lent, Known, Fit}
 use Rattle.messages.specs.Bounds.{rowLeast, tableLeast, labelBelow, leastLabels}
-use Rattle.messages.proofs.Sight.{proper, whole, low-is, high-is, degree-is}
+use Rattle.messages.proofs.Sight.{proper, whole, low-is, high-is}
 use Rattle.messages.proofs.RowLaws.{least-of-within}
 use Rattle.messages.proofs.SumLaws.{Parts}
 use Rattle.messages.proofs.LabelLaws.{leasts-at}

@@ -1,18 +1,16 @@
 -- A table of 64 places, one a label: one place set, and each label's least as the places are gone through.
 -- Assumes nothing.
-use mathlib.Core.Path.{_≡_, refl, sym, ap, ap₂, _∙_}
-use mathlib.Core.Bool.{Bool, true, false, cond}
+use mathlib.Core.Path.{_≡_, refl, sym, ap, _∙_}
+use mathlib.Core.Bool.{Bool, cond}
 use mathlib.Core.List.{List, [], _∷_, _++_, map}
-use Prim.Native.Nat.{ℕ, suc, _+_, _≤_, _<_}
-use native.Mathlib.Numerals.{add-one}
+use Prim.Native.Nat.{ℕ, _+_, _<_}
 use native.Mathlib.Omega.{arith}
 use borrow.Author.Tests.{eq-eqb, ne-eqb, eqb-true, eqb-false}
 use lib.Dec.{eqb}
-use lib.ListN.{length, getD, set, replicate, length-set}
+use lib.ListN.{getD, set, replicate, length-set}
 use lib.Seq.{ext-getD, getD-set-same, getD-set-other}
-use lib.IntN.{ℤ, pos, natAbs}
+use lib.IntN.{ℤ, pos}
 use Rattle.integers.specs.Least.{minℤ, leastFrom}
-use Rattle.integers.specs.Sum.{Within}
 use Rattle.integers.specs.Places.{range, select, tabulate}
 use Rattle.integers.proofs.Places.{by-test, if-true, if-false, length-tabulate, getD-tabulate}
 use Rattle.integers.proofs.Ranges.{range-add, select-append}

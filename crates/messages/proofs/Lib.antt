@@ -11,3 +11,8 @@ pub mod IncumbentLaws
 pub mod OverLaws
 pub mod EdgeLaws
 pub mod RivalLaws
+pub mod RoundingLaws
+pub mod RoundTurns
+pub mod LentLaws
+pub mod ReportLaws
+pub mod AmountLaws

@@ -1,7 +1,7 @@
 -- What an opening answers and leaves, case by case.
 -- Assumes nothing.
-use mathlib.Core.Path.{_≡_, refl, sym, ap, _∙_}
-use mathlib.Core.Bool.{Bool, true, false, cond, _&&_}
+use mathlib.Core.Path.{_≡_, sym, ap, _∙_}
+use mathlib.Core.Bool.{true, false, cond, _&&_}
 use mathlib.Core.List.{List, [], _∷_}
 use Prim.Native.Nat.{ℕ, _+_, _*_}
 use native.Mathlib.Omega.{arith}
@@ -14,13 +14,13 @@ use Rattle.integers.specs.Checks.{firstFailure}
 use Rattle.integers.proofs.Places.{if-true, if-false, and-true}
 use Rattle.integers.proofs.Checks.{failure-append}
 use Rattle.instance.specs.Bytes.{priceAt}
-use Rattle.instance.specs.Instance.{Instance, first, nodeCells, edgeCells}
+use Rattle.instance.specs.Instance.{Instance, nodeCells, edgeCells}
 use Rattle.instance.specs.Sheet.{instanceOf, nodePricesAt, edgePricesAt, checks, refusalOf}
 use Rattle.instance.specs.declared.reading.Layout.{Layout}
 use Rattle.instance.proofs.LaidOut.{LaidOut}
 use Rattle.instance.proofs.Shown.{checks-numbered}
 use Rattle.rules.specs.Costs.{Buffers, opened}
-use Rattle.rules.specs.Calls.{lengthsOk, openRefusal, openOf, Opened}
+use Rattle.rules.specs.Calls.{lengthsOk, openRefusal, openOf}
 use Rattle.messages.specs.World.{opens}
 
 module _ (s : List ℕ) (b : Buffers) where

@@ -1,14 +1,14 @@
 -- Rows of costs as the code goes through them: the least over two parts, a test of each cost, and the range of a cost.
 -- Assumes nothing.
-use mathlib.Core.Path.{_≡_, refl, sym, ap, ap₂, _∙_}
+use mathlib.Core.Path.{_≡_, refl, sym, ap, _∙_}
 use mathlib.Core.Bool.{Bool, true, false, _&&_}
 use mathlib.Core.List.{List, [], _∷_, _++_}
-use Prim.Native.Nat.{ℕ, zero, suc, _+_, _≤_, _<_}
+use Prim.Native.Nat.{ℕ, zero, suc, _≤_, _<_}
 use native.Mathlib.Nat.{not-suc-le-zero}
 use native.Mathlib.Omega.{arith}
 use borrow.Author.Tests.{le-leb, lt-leb, leb-true}
 use lib.ListN.{length, getD}
-use lib.IntN.{ℤ, pos, negℤ, natAbs, _-ℤ_}
+use lib.IntN.{ℤ, pos, natAbs, _-ℤ_}
 use lib.Signed.{_≤ℤ_, _<ℤ_}
 use mir.Syntax.{w64}
 use mir.Val.{SFits}
@@ -16,7 +16,7 @@ use Rattle.integers.specs.Least.{minℤ, leastFrom, leastOf, without}
 use Rattle.integers.specs.Share.{share, amount}
 use Rattle.integers.specs.Sum.{Within}
 use Rattle.integers.specs.Places.{every}
-use Rattle.integers.specs.Checks.{below, within}
+use Rattle.integers.specs.Checks.{within}
 use Rattle.integers.proofs.Parts.{linear, abs, apart, sub}
 use Rattle.integers.proofs.Places.{and-true}
 use Rattle.integers.proofs.Least.{least-append, least-min, least-within}

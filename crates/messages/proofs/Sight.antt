@@ -1,17 +1,16 @@
 -- What is known of a sheet that was read and not refused: where its bytes stand, and what they say.
 -- Assumes nothing.
-use mathlib.Core.Path.{_≡_, refl, sym, ap, _∙_}
+use mathlib.Core.Path.{_≡_, refl, ap, _∙_}
 use mathlib.Core.List.{List}
 use Prim.Native.Nat.{ℕ, _+_, _*_, _≤_, _<_}
 use native.Mathlib.Omega.{arith}
 use lib.ListN.{length, getD}
 use Rattle.integers.proofs.Checks.{padded-at}
 use Rattle.instance.specs.Bytes.{byte, priceAt}
-use Rattle.instance.specs.Instance.{Instance, first, nodeCells, tableSize, table, edgeCells}
-use Rattle.instance.specs.Sheet.{instanceOf, labelsAt, nodePricesAt, endsAt, edgePricesAt}
+use Rattle.instance.specs.Instance.{Instance, first, nodeCells, table, edgeCells}
+use Rattle.instance.specs.Sheet.{instanceOf, nodePricesAt, edgePricesAt}
 use Rattle.instance.specs.Readable.{Proper, Readable}
 use Rattle.instance.proofs.Readable.{readable}
-use Rattle.instance.proofs.LaidOut.{low-inside}
 use Rattle.messages.specs.World.{Known, Seen}
 
 module _ {s : List ℕ} {n ends : ℕ} (w : Known s n ends) where

@@ -1,20 +1,23 @@
 -- Kinds 3 and 4: one amount between the node cost and the label cost of one place.
 use mathlib.Core.Path.{_≡_}
 use mathlib.Core.Bool.{cond, _&&_}
-use mathlib.Core.List.{List, map}
+use mathlib.Core.List.{List, _∷_, map}
 use Prim.Native.Nat.{ℕ, _+_, _≤_, _<_}
 use lib.Dec.{eqb}
-use lib.ListN.{getD}
+use lib.ListN.{length, getD}
 use lib.IntN.{ℤ, pos, negℤ, _+ℤ_}
 use Rattle.integers.specs.Least.{leastFrom}
+use Rattle.integers.specs.Share.{amount}
+use Rattle.integers.specs.Sum.{Within}
 use Rattle.integers.specs.Rows.{addAt}
 use Rattle.integers.specs.Places.{others, select}
 use Rattle.integers.specs.Checks.{within}
 use Rattle.instance.specs.Bytes.{byte}
-use Rattle.instance.specs.Instance.{Instance, first}
+use Rattle.instance.specs.Instance.{Instance, first, nodeCells}
 use Rattle.instance.specs.Sheet.{instanceOf}
 use Rattle.rules.specs.Places.{nodePlaces, labelPlaces}
 use Rattle.rules.specs.Calls.{filmOut}
+use Rattle.messages.specs.World.{Known}
 
 -- node and label costs that a move leaves, with its refusal: 0, or 13 where a cost would pass the limit and nothing is written
 pub record Moved : Type 0 where
@@ -51,3 +54,25 @@ pub record Owned (s : List ℕ) (u i label : ℕ) : Type 0 where
 pub record Found (s : List ℕ) (at degree label r : ℕ) : Type 0 where
   pub upto : r ≤ degree
   pub here : (j : ℕ) → j < degree → eqb (byte s (at + j)) label ≡ eqb j r
+
+-- what the node cost at the place i gives against the node's others, and the label cost there against 0 and the label's others
+abbrev pub nodeAmount : Instance → List ℤ → ℕ → ℕ → ℕ → ℤ
+nodeAmount I nodes u i r = amount (getD nodes i (pos 0)) (map (λ j. getD nodes j (pos 0)) (others i (nodePlaces I u))) r
+
+abbrev pub labelAmount : Instance → List ℤ → ℕ → ℕ → ℤ
+labelAmount I labels i r = amount (getD labels i (pos 0)) (pos 0 ∷ map (λ j. getD labels j (pos 0)) (others i (labelPlaces I (I .label i)))) r
+
+-- a sheet that was read and not refused, node u whose places begin at `at`, one of its positions, and a share
+pub record PlaceAsked (s : List ℕ) (n ends at u k share : ℕ) : Type 0 where
+  pub known : Known s n ends
+  pub node : u < n
+  pub begins : at ≡ first (instanceOf s) u
+  pub position : k < instanceOf s .degree u
+  pub some : 1 ≤ share
+
+-- node and label costs of the right lengths and within the limit
+pub record LabelFit (s : List ℕ) (nodes labels : List ℤ) : Type 0 where
+  pub nodeLength : length nodes ≡ nodeCells (instanceOf s)
+  pub labelLength : length labels ≡ nodeCells (instanceOf s)
+  pub nodeRange : Within filmOut nodes
+  pub labelRange : Within filmOut labels

@@ -5,3 +5,5 @@ pub mod LabelMessage
 pub mod Incumbent
 pub mod EdgeMessage
 pub mod Step
+pub mod Rounded
+pub mod Answers

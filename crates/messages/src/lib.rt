@@ -1,9 +1,13 @@
 // Moving costs: opening, running a list of records, reporting. Document 01, "The costs that move", "Records", "Reporting".
+pub mod answers;
 mod bound;
 mod edge_message;
 mod filling;
 mod incumbent;
 mod label_message;
+mod lent;
 mod opening;
+mod reporting;
+mod rounding;
 mod rows;
 mod world;

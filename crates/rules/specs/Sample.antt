@@ -2,7 +2,7 @@
 use mathlib.Core.Path.{_≡_, refl}
 use mathlib.Core.List.{List, [], _∷_, _++_, map}
 use mathlib.Core.Option.{bind}
-use Prim.Native.Nat.{ℕ, _^_, _*_}
+use Prim.Native.Nat.{ℕ, _*_}
 use lib.ListN.{getD, take}
 use lib.IntN.{ℤ, pos, negsuc}
 use Rattle.integers.specs.Least.{minℤ, leastOf, leastFrom}
