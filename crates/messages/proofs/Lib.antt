@@ -16,3 +16,5 @@ pub mod RoundTurns
 pub mod LentLaws
 pub mod ReportLaws
 pub mod AmountLaws
+pub mod EdgeRecordLaws
+pub mod RecordLaws

@@ -7,3 +7,5 @@ pub mod EdgeMessage
 pub mod Step
 pub mod Rounded
 pub mod Answers
+pub mod EdgeRecord
+pub mod Records

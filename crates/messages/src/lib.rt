@@ -2,11 +2,13 @@
 pub mod answers;
 mod bound;
 mod edge_message;
+mod edge_record;
 mod filling;
 mod incumbent;
 mod label_message;
 mod lent;
 mod opening;
+mod records;
 mod reporting;
 mod rounding;
 mod rows;

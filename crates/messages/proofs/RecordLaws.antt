@@ -1,0 +1,141 @@
+-- Legality: what the code's tests say of it, and what a legal record is known by.
+-- Assumes nothing.
+use mathlib.Core.Path.{_≡_, refl, sym, ap, _∙_}
+use mathlib.Core.Bool.{Bool, true, false, cond, _&&_, _||_}
+use mathlib.Core.List.{List}
+use mathlib.Core.Logic.{_⊎_, inl, inr}
+use Prim.Native.Nat.{ℕ, _+_, _≤_, _<_}
+use native.Mathlib.Omega.{arith}
+use borrow.Author.Tests.{eq-eqb, ne-eqb, eqb-true, lt-ltb, le-ltb, ltb-true, leb-true, le-leb, lt-leb}
+use lib.Dec.{leb, ltb, eqb}
+use lib.IntN.{ℤ}
+use Rattle.integers.proofs.Places.{by-test, if-true, if-false, and-true}
+use Rattle.instance.specs.Instance.{Instance, first}
+use Rattle.instance.specs.Sheet.{instanceOf}
+use Rattle.rules.specs.Run.{legalShare, legalEdge, legalPosition}
+use Rattle.messages.specs.World.{Known, Seen}
+use Rattle.messages.specs.LabelMessage.{Moved, labelMove, labelMoved, PlaceAsked}
+use Rattle.messages.specs.EdgeRecord.{EdgeMove, edgeMove, edgeMoved, EdgeLegal}
+use Rattle.messages.specs.Records.{labelGiven, labelTaken, edgeTaken, EdgeFit}
+
+-- ---- shares
+
+pub share-none : (r : ℕ) → r < 1 → false ≡ legalShare r
+unfolding legalShare
+share-none r h = rw (lt-leb 1 r h)
+
+pub share-some : (r : ℕ) → 1 ≤ r → leb r 64 ≡ legalShare r
+unfolding legalShare
+share-some r h = rw (le-leb 1 r h)
+
+pub share-is : (r : ℕ) → legalShare r ≡ true → 1 ≤ r
+unfolding legalShare
+share-is r h = let (a, b) = and-true (leb 1 r) (leb r 64) h in leb-true 1 r a
+
+-- ---- edges
+
+module _ (I : Instance) (u e r : ℕ) where
+  pub edge-no-share : legalShare r ≡ false → false ≡ legalEdge I u e r
+  unfolding legalEdge
+  edge-no-share h = rw h
+
+  module _ (h : legalShare r ≡ true) where
+    pub edge-no-node : I .nodeCount ≤ u → false ≡ legalEdge I u e r
+    unfolding legalEdge
+    edge-no-node g = rw (h, le-ltb u (I .nodeCount) g)
+
+    module _ (g : u < I .nodeCount) where
+      pub edge-none : I .edgeCount ≤ e → false ≡ legalEdge I u e r
+      unfolding legalEdge
+      edge-none k = rw (h, lt-ltb u (I .nodeCount) g, le-ltb e (I .edgeCount) k)
+
+      module _ (k : e < I .edgeCount) where
+        pub edge-low : u ≡ I .low e → true ≡ legalEdge I u e r
+        unfolding legalEdge
+        edge-low l = rw (h, lt-ltb u (I .nodeCount) g, lt-ltb e (I .edgeCount) k, eq-eqb u (I .low e) l)
+
+        pub edge-high : (u ≡ I .low e → ⊥) → eqb u (I .high e) ≡ legalEdge I u e r
+        unfolding legalEdge
+        edge-high l = rw (h, lt-ltb u (I .nodeCount) g, lt-ltb e (I .edgeCount) k, ne-eqb u (I .low e) l)
+
+  either : (a b : Bool) → (a || b) ≡ true → (a ≡ true) ⊎ (b ≡ true)
+  either true b h = inl refl
+  either false b h = inr h
+
+  -- what a legal record names exists
+  pub legal-edge-is : legalEdge I u e r ≡ true → (1 ≤ r) × (u < I .nodeCount) × (e < I .edgeCount) × ((u ≡ I .low e) ⊎ (u ≡ I .high e))
+  unfolding legalEdge
+  legal-edge-is h =
+      let (abc, d) = and-true (legalShare r && ltb u (I .nodeCount) && ltb e (I .edgeCount)) (eqb u (I .low e) || eqb u (I .high e)) h in
+      let (ab, c) = and-true (legalShare r && ltb u (I .nodeCount)) (ltb e (I .edgeCount)) abc in
+      let (a, b) = and-true (legalShare r) (ltb u (I .nodeCount)) ab in
+      (share-is r a, ltb-true u (I .nodeCount) b, ltb-true e (I .edgeCount) c, ends (either (eqb u (I .low e)) (eqb u (I .high e)) d))
+    where
+      ends : (eqb u (I .low e) ≡ true) ⊎ (eqb u (I .high e) ≡ true) → (u ≡ I .low e) ⊎ (u ≡ I .high e)
+      ends (inl t) = inl (eqb-true u (I .low e) t)
+      ends (inr t) = inr (eqb-true u (I .high e) t)
+
+-- ---- positions
+
+module _ (I : Instance) (u k r : ℕ) where
+  pub position-no-share : legalShare r ≡ false → false ≡ legalPosition I u k r
+  unfolding legalPosition
+  position-no-share h = rw h
+
+  module _ (h : legalShare r ≡ true) where
+    pub position-no-node : I .nodeCount ≤ u → false ≡ legalPosition I u k r
+    unfolding legalPosition
+    position-no-node g = rw (h, le-ltb u (I .nodeCount) g)
+
+    pub position-some : u < I .nodeCount → ltb k (I .degree u) ≡ legalPosition I u k r
+    unfolding legalPosition
+    position-some g = rw (h, lt-ltb u (I .nodeCount) g)
+
+  pub legal-position-is : legalPosition I u k r ≡ true → (1 ≤ r) × (u < I .nodeCount) × (k < I .degree u)
+  unfolding legalPosition
+  legal-position-is h =
+      let (ab, c) = and-true (legalShare r && ltb u (I .nodeCount)) (ltb k (I .degree u)) h in
+      let (a, b) = and-true (legalShare r) (ltb u (I .nodeCount)) ab in
+      (share-is r a, ltb-true u (I .nodeCount) b, ltb-true k (I .degree u) c)
+
+-- ---- taken, or refused
+
+module _ (I : Instance) (nodes edges : List ℤ) (turned : Bool) (u e r : ℕ) where
+  pub edge-taken : legalEdge I u e r ≡ true → edgeMoved I nodes edges turned u e r ≡ edgeTaken I nodes edges turned u e r
+  unfolding edgeTaken
+  edge-taken h = sym (if-true (edgeMoved I nodes edges turned u e r) (edgeMove 12 nodes edges) h)
+
+  pub edge-refused : legalEdge I u e r ≡ false → edgeMove 12 nodes edges ≡ edgeTaken I nodes edges turned u e r
+  unfolding edgeTaken
+  edge-refused h = sym (if-false (edgeMoved I nodes edges turned u e r) (edgeMove 12 nodes edges) h)
+
+module _ (I : Instance) (nodes labels : List ℤ) (turned : Bool) (u k r : ℕ) where
+  pub label-taken : legalPosition I u k r ≡ true → labelMoved nodes labels (first I u + k) (labelGiven I nodes labels turned u k r) ≡ labelTaken I nodes labels turned u k r
+  unfolding labelTaken
+  label-taken h = sym (if-true (labelMoved nodes labels (first I u + k) (labelGiven I nodes labels turned u k r)) (labelMove 12 nodes labels) h)
+
+  pub label-refused : legalPosition I u k r ≡ false → labelMove 12 nodes labels ≡ labelTaken I nodes labels turned u k r
+  unfolding labelTaken
+  label-refused h = sym (if-false (labelMoved nodes labels (first I u + k) (labelGiven I nodes labels turned u k r)) (labelMove 12 nodes labels) h)
+
+-- what the moves ask
+module _ {s : List ℕ} {n ends : ℕ} {starts tables : List ℕ} (v : Seen s n ends starts tables) where
+  pub edge-legal : (nodes edges : List ℤ) (u e r : ℕ) → EdgeFit s nodes edges → legalEdge (instanceOf s) u e r ≡ true → EdgeLegal s n ends starts tables nodes edges u e r
+  edge-legal nodes edges u e r f h =
+      let (a, b, c, d) = legal-edge-is (instanceOf s) u e r h in
+      record {
+        seen = v;
+        nodeLength = f .nodeLength;
+        edgeLength = f .edgeLength;
+        nodeRange = f .nodeRange;
+        edgeRange = f .edgeRange;
+        node = omega (arith, v .known .nodes);
+        edge = c;
+        touches = d;
+        shares = a;
+      }
+
+  pub place-asked : (at u k r : ℕ) → at ≡ first (instanceOf s) u → legalPosition (instanceOf s) u k r ≡ true → PlaceAsked s n ends at u k r
+  place-asked at u k r e h =
+      let (a, b, c) = legal-position-is (instanceOf s) u k r h in
+      record { known = v .known; node = omega (arith, v .known .nodes); begins = e; position = c; some = a }
