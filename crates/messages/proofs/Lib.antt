@@ -18,3 +18,6 @@ pub mod ReportLaws
 pub mod AmountLaws
 pub mod EdgeRecordLaws
 pub mod RecordLaws
+pub mod RoundRecordLaws
+pub mod TurnLaws
+pub mod RunLaws

@@ -6,6 +6,8 @@ pub mod Incumbent
 pub mod EdgeMessage
 pub mod Step
 pub mod Rounded
+pub mod RoundRecord
 pub mod Answers
 pub mod EdgeRecord
 pub mod Records
+pub mod Turn

@@ -1,0 +1,87 @@
+-- `one_record` meets its contract, kind by kind.
+use Prim.Native.Nat.{ℕ, _≤_, _<_}
+use mathlib.Core.Logic.{inl, inr}
+use mathlib.Core.Path.{_≡_, sym, ap, _∙_}
+use denote.Ref.{now}
+use Rattle.instance.specs.Sheet.{instanceOf}
+use Rattle.rules.specs.Costs.{Buffers}
+use Rattle.messages.specs.World.{lent}
+use Rattle.rules.specs.Run.{Kind, effect}
+use Rattle.rules.specs.Calls.{filmOut}
+use Rattle.messages.specs.Step.{settled}
+use Rattle.messages.proofs.RoundRecordLaws.{round-settled}
+use Rattle.messages.proofs.TurnLaws.{fit, round-fit, kind-rounding, none-turn}
+use native.Mathlib.Omega.{arith}
+use borrow.Author.Needs.{needs}
+use Rattle.messages.proofs.turn.one_record.Statement.{statement}
+use Rattle.messages.proofs.turn.one_record.Tie as tie
+
+abbrev lends : tie.Start → Buffers
+lends q = lent (now (q .args .nodes)) (now (q .args .labels)) (now (q .args .edges)) (now (q .args .incumbent))
+
+round-record-requires : tie.Need-round-record-requires
+round-record-requires c κs = let q = c .before .before .before .before .before .before in (q .pre .0, (q .pre .1 .0, round-fit (q .pre .1 .1)))
+
+same-length : tie.Need-same-length
+same-length c = search needs
+
+same-length-2 : tie.Need-same-length-2
+same-length-2 c = search needs
+
+same-length-3 : tie.Need-same-length-3
+same-length-3 c = search needs
+
+returns : tie.Need-returns
+returns c =
+    let q = c .before .before .before .before .before .before .before .before .before in
+    let a = q .args in
+    let I = instanceOf (now (a .sheet)) in
+    round-settled I (lends q) (a .u) (a .index) (a .share) (c .before .before .round-record .ensures)
+    ∙ ap (λ (k : Kind). settled (lends q) (effect I filmOut (lends q) k (a .u) (a .index) (a .share))) (sym (kind-rounding (a .kind) (c .before .before .before .before .before .before .if1 .taken)))
+
+returns-2 : tie.Need-returns-2
+returns-2 c =
+    let q = c .before .before .before .before in
+    none-turn (instanceOf (now (q .args .sheet))) (lends q) (q .args .kind) (q .args .u) (q .args .index) (q .args .share) (inl (c .if2 .taken))
+
+returns-3 : tie.Need-returns-3
+returns-3 c =
+    let q = c .before .before .before .before .before in
+    none-turn (instanceOf (now (q .args .sheet))) (lends q) (q .args .kind) (q .args .u) (q .args .index) (q .args .share) (inr (c .if3 .taken))
+
+message-requires : tie.Need-message-requires
+message-requires c κs =
+    let t = c .before .before .before in
+    let q = t .before .before .before .before .before in
+    (q .pre .0, (q .pre .1 .0 .count, (fit (q .pre .1 .1), (omega (arith, t .before .if2 .left), omega (arith, t .if3 .left, t .before .before .if1 .left)))))
+
+same-length-4 : tie.Need-same-length-4
+same-length-4 c = search needs
+
+same-length-5 : tie.Need-same-length-5
+same-length-5 c = search needs
+
+same-length-6 : tie.Need-same-length-6
+same-length-6 c = search needs
+
+returns-4 : tie.Need-returns-4
+returns-4 c =
+    let q = c .before .before .before .before .before .before .before .before .before .before .before .before in
+    c .before .before .before .message .ensures (now (q .args .incumbent)) (q .pre .1 .1)
+
+pub one-record-spec : {M : Type 1} → statement M
+one-record-spec =
+    tie.close
+    (tie.spec
+    round-record-requires
+    same-length
+    same-length-2
+    same-length-3
+    returns
+    returns-2
+    returns-3
+    message-requires
+    same-length-4
+    same-length-5
+    same-length-6
+    returns-4)
