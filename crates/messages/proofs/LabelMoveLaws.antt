@@ -73,20 +73,20 @@ module _ {s : List ℕ} {at degree label : ℕ} where
     found-here h e = record {
       upto = omega arith;
       here = λ j l. by-test (eqb j k)
-        (λ t. let q : j ≡ k = eqb-true j k t in eq-eqb (byte s (at + j)) label (rw q e) ∙ sym t)
-        (λ t. let q : j ≡ k → ⊥ = eqb-false j k t in by-test (ltb j k)
-        (λ m. let b = g .below j (ltb-true j k m) in ne-eqb (byte s (at + j)) label (λ z. omega arith) ∙ sym t)
-        (λ m. let b = after j l (omega (arith, ltb-false j k m)) in ne-eqb (byte s (at + j)) label (λ z. omega arith) ∙ sym t));
+          (λ t. let q : j ≡ k = eqb-true j k t in eq-eqb (byte s (at + j)) label (rw q e) ∙ sym t)
+          (λ t. let q : j ≡ k → ⊥ = eqb-false j k t in by-test (ltb j k)
+          (λ m. let b = g .below j (ltb-true j k m) in ne-eqb (byte s (at + j)) label (λ z. omega arith) ∙ sym t)
+          (λ m. let b = after j l (omega (arith, ltb-false j k m)) in ne-eqb (byte s (at + j)) label (λ z. omega arith) ∙ sym t));
     }
 
     pub found-past : k < degree → label < byte s (at + k) → Found s at degree label degree
     found-past h e = record {
       upto = omega arith;
       here = λ j l. by-test (eqb j k)
-        (λ t. let q : j ≡ k = eqb-true j k t in ne-eqb (byte s (at + j)) label (λ z. let y : byte s (at + k) ≡ label = ap (λ (i : ℕ). byte s (at + i)) (sym q) ∙ z in omega arith) ∙ sym (ne-eqb j degree (λ z. omega arith)))
-        (λ t. let q : j ≡ k → ⊥ = eqb-false j k t in by-test (ltb j k)
-        (λ m. let b = g .below j (ltb-true j k m) in ne-eqb (byte s (at + j)) label (λ z. omega arith) ∙ sym (ne-eqb j degree (λ z. omega arith)))
-        (λ m. let b = after j l (omega (arith, ltb-false j k m)) in ne-eqb (byte s (at + j)) label (λ z. omega arith) ∙ sym (ne-eqb j degree (λ z. omega arith))));
+          (λ t. let q : j ≡ k = eqb-true j k t in ne-eqb (byte s (at + j)) label (λ z. let y : byte s (at + k) ≡ label = ap (λ (i : ℕ). byte s (at + i)) (sym q) ∙ z in omega arith) ∙ sym (ne-eqb j degree (λ z. omega arith)))
+          (λ t. let q : j ≡ k → ⊥ = eqb-false j k t in by-test (ltb j k)
+          (λ m. let b = g .below j (ltb-true j k m) in ne-eqb (byte s (at + j)) label (λ z. omega arith) ∙ sym (ne-eqb j degree (λ z. omega arith)))
+          (λ m. let b = after j l (omega (arith, ltb-false j k m)) in ne-eqb (byte s (at + j)) label (λ z. omega arith) ∙ sym (ne-eqb j degree (λ z. omega arith))));
     }
 
     pub found-end : degree ≤ k → Found s at degree label degree

@@ -21,3 +21,5 @@ pub mod RecordLaws
 pub mod RoundRecordLaws
 pub mod TurnLaws
 pub mod RunLaws
+pub mod Trace
+pub mod Whole

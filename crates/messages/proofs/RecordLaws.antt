@@ -1,7 +1,7 @@
 -- Legality: what the code's tests say of it, and what a legal record is known by.
 -- Assumes nothing.
-use mathlib.Core.Path.{_≡_, refl, sym, ap, _∙_}
-use mathlib.Core.Bool.{Bool, true, false, cond, _&&_, _||_}
+use mathlib.Core.Path.{_≡_, refl, sym}
+use mathlib.Core.Bool.{Bool, true, false, _&&_, _||_}
 use mathlib.Core.List.{List}
 use mathlib.Core.Logic.{_⊎_, inl, inr}
 use Prim.Native.Nat.{ℕ, _+_, _≤_, _<_}
@@ -9,13 +9,13 @@ use native.Mathlib.Omega.{arith}
 use borrow.Author.Tests.{eq-eqb, ne-eqb, eqb-true, lt-ltb, le-ltb, ltb-true, leb-true, le-leb, lt-leb}
 use lib.Dec.{leb, ltb, eqb}
 use lib.IntN.{ℤ}
-use Rattle.integers.proofs.Places.{by-test, if-true, if-false, and-true}
+use Rattle.integers.proofs.Places.{if-true, if-false, and-true}
 use Rattle.instance.specs.Instance.{Instance, first}
 use Rattle.instance.specs.Sheet.{instanceOf}
 use Rattle.rules.specs.Run.{legalShare, legalEdge, legalPosition}
-use Rattle.messages.specs.World.{Known, Seen}
-use Rattle.messages.specs.LabelMessage.{Moved, labelMove, labelMoved, PlaceAsked}
-use Rattle.messages.specs.EdgeRecord.{EdgeMove, edgeMove, edgeMoved, EdgeLegal}
+use Rattle.messages.specs.World.{Seen}
+use Rattle.messages.specs.LabelMessage.{labelMove, labelMoved, PlaceAsked}
+use Rattle.messages.specs.EdgeRecord.{edgeMove, edgeMoved, EdgeLegal}
 use Rattle.messages.specs.Records.{labelGiven, labelTaken, edgeTaken, EdgeFit}
 
 -- ---- shares

@@ -2,7 +2,7 @@
 -- Assumes nothing.
 use mathlib.Core.Path.{_≡_, refl, sym, ap, ap₂, subst, _∙_}
 use mathlib.Core.List.{List, [], _∷_}
-use mathlib.Core.Logic.{_⊎_, inl, inr}
+use mathlib.Core.Logic.{inl, inr}
 use Prim.Native.Nat.{ℕ, suc, _+_, _*_, _%_, _≤_, _<_}
 use native.Mathlib.Omega.{arith}
 use lib.ListN.{length, getD, drop, length-drop}
@@ -12,7 +12,7 @@ use Rattle.instance.specs.Sheet.{instanceOf}
 use Rattle.instance.specs.Readable.{Proper}
 use Rattle.instance.proofs.Readable as sheet
 use Rattle.rules.specs.Costs.{Buffers, Sized}
-use Rattle.rules.specs.Run.{Record, Outcome, refused, done, Ran, kindOf, records, effect, step, run, runList}
+use Rattle.rules.specs.Run.{Record, Outcome, refused, done, Ran, kindOf, records, step, run, runList}
 use Rattle.rules.specs.Calls.{filmOut, lentRefusal, runRefusal, runOf}
 use Rattle.rules.proofs.Calls.{run-refusal-by}
 use Rattle.integers.proofs.Places.{if-true, if-false}

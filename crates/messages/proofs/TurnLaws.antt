@@ -7,21 +7,20 @@ use mathlib.Core.Logic.{_⊎_, inl, inr}
 use Prim.Native.Nat.{ℕ, zero, suc, _+_, _≤_, _<_}
 use native.Mathlib.Omega.{arith}
 use borrow.Author.Tests.{eq-eqb, eqb-true}
-use lib.Dec.{eqb, ltb}
-use lib.ListN.{length, getD, replicate}
-use lib.IntN.{ℤ, pos, negℤ, _+ℤ_}
+use lib.Dec.{eqb}
+use lib.ListN.{length, replicate}
+use lib.IntN.{ℤ, negℤ, _+ℤ_}
 use Rattle.integers.specs.Places.{every}
 use Rattle.integers.specs.Checks.{within}
 use Rattle.integers.specs.Rows.{addAt}
-use Rattle.integers.proofs.Places.{by-test, if-true, if-false, and-true, by-cond, every-replicate}
+use Rattle.integers.proofs.Places.{by-test, and-true, by-cond, every-replicate}
 use Rattle.instance.specs.Instance.{Instance, first, nodeCells, edgeCells}
-use Rattle.instance.specs.Sheet.{instanceOf, refusalOf}
+use Rattle.instance.specs.Sheet.{instanceOf}
 use Rattle.instance.proofs.Readable as sheet
 use Rattle.instance.proofs.LaidOut.{row-inside}
 use Rattle.instance.specs.Readable.{Proper}
 use Rattle.rules.specs.Costs.{Buffers, costsOf, inRange, Sized, Matching}
-use Rattle.rules.specs.Messages.{Message, nodeToEdge, edgeToNode, nodeToLabel, labelToNode, toLabel, deltas, shift}
-use Rattle.rules.specs.Held.{Sound}
+use Rattle.rules.specs.Messages.{nodeToEdge, edgeToNode, toLabel, deltas, shift}
 use mathlib.Core.Option.{Option, none, some}
 use Rattle.rules.specs.Rounding.{round}
 use Rattle.rules.specs.Run.{Kind, message, rounding, unknown, kindOf, Outcome, refused, done, rounded, checked, effect, legalMessage, legalEdge, legalPosition}
@@ -36,7 +35,6 @@ use Rattle.messages.specs.EdgeRecord.{EdgeMove, edgeMove, edgeMoved}
 use Rattle.messages.specs.RoundRecord.{RoundFit}
 use Rattle.messages.specs.Records.{labelGiven, labelTaken, edgeTaken, EdgeFit}
 use Rattle.messages.specs.Turn.{Good}
-use Rattle.messages.proofs.OpenLaws.{lengths-are}
 use Rattle.messages.proofs.LentLaws.{LentWell, fit-of}
 use Rattle.messages.proofs.EdgeRecordLaws.{edgeSettled, edge-settled, edge-settled-turned}
 use Rattle.messages.proofs.RecordLaws.{legal-edge-is, legal-position-is}

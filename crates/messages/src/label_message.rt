@@ -69,7 +69,16 @@ fn find_label(sheet: &[u8], at: usize, degree: usize, label: usize) -> usize
 }
 
 // The least of `best` and node `w`'s cost of the label, unless `w` is the node `u` of the place itself.
-fn meet_label(sheet: &[u8], n: usize, ends: usize, labels: &[i64], w: usize, at: usize, own: Own, best: i64) -> i64
+fn meet_label(
+    sheet: &[u8],
+    n: usize,
+    ends: usize,
+    labels: &[i64],
+    w: usize,
+    at: usize,
+    own: Own,
+    best: i64,
+) -> i64
     requires { ⌜ Known (now sheet) n ends ⌝ }
     requires { ⌜ length (now labels) ≡ nodeCells (instanceOf (now sheet)) ⌝ }
     requires { ⌜ (w < n) × (at ≡ first (instanceOf (now sheet)) w) ⌝ }
@@ -107,7 +116,16 @@ fn label_rival(sheet: &[u8], n: usize, ends: usize, labels: &[i64], own: Own) ->
 }
 
 // What the node cost at position k gives to its label: kind 3.
-fn node_amount(sheet: &[u8], n: usize, ends: usize, at: usize, nodes: &[i64], u: usize, k: usize, share: u8) -> i64
+fn node_amount(
+    sheet: &[u8],
+    n: usize,
+    ends: usize,
+    at: usize,
+    nodes: &[i64],
+    u: usize,
+    k: usize,
+    share: u8,
+) -> i64
     requires { ⌜ PlaceAsked (now sheet) n ends at u k share ⌝ }
     requires { ⌜ length (now nodes) ≡ nodeCells (instanceOf (now sheet)) ⌝ }
     requires { ⌜ Within filmOut (now nodes) ⌝ }
@@ -118,7 +136,16 @@ fn node_amount(sheet: &[u8], n: usize, ends: usize, at: usize, nodes: &[i64], u:
 }
 
 // What the label cost there gives to the node: kind 4.
-fn label_amount(sheet: &[u8], n: usize, ends: usize, at: usize, labels: &[i64], u: usize, k: usize, share: u8) -> i64
+fn label_amount(
+    sheet: &[u8],
+    n: usize,
+    ends: usize,
+    at: usize,
+    labels: &[i64],
+    u: usize,
+    k: usize,
+    share: u8,
+) -> i64
     requires { ⌜ PlaceAsked (now sheet) n ends at u k share ⌝ }
     requires { ⌜ length (now labels) ≡ nodeCells (instanceOf (now sheet)) ⌝ }
     requires { ⌜ Within filmOut (now labels) ⌝ }
@@ -130,7 +157,10 @@ fn label_amount(sheet: &[u8], n: usize, ends: usize, at: usize, labels: &[i64], 
         place,
         label: wide(sheet[n + place]),
     };
-    share_of(minus(labels[place], label_rival(sheet, n, ends, labels, own)), share)
+    share_of(
+        minus(labels[place], label_rival(sheet, n, ends, labels, own)),
+        share,
+    )
 }
 
 // A record of kind 3: node u to its label at position k.

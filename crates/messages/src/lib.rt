@@ -16,3 +16,9 @@ mod rounding;
 mod rows;
 mod turn;
 mod world;
+
+pub use answers::Answer;
+pub use answers::Report;
+pub use list::run;
+pub use opening::open;
+pub use reporting::report;

@@ -44,15 +44,37 @@ fn run_all(
     let mut done = 0;
     let mut stuck = 0;
     while at < records.len() {
-        let taken = next_record(sheet, n, ends, starts, tables, prices, cells, count, &records[at..], nodes, labels, edges, incumbent);
+        let taken = next_record(
+            sheet,
+            n,
+            ends,
+            starts,
+            tables,
+            prices,
+            cells,
+            count,
+            &records[at..],
+            nodes,
+            labels,
+            edges,
+            incumbent,
+        );
         if taken.refusal != NONE {
-            return Answer { done, stuck, refusal: taken.refusal };
+            return Answer {
+                done,
+                stuck,
+                refusal: taken.refusal,
+            };
         }
         stuck += taken.stuck;
         done += 1;
         at += 5;
     }
-    Answer { done, stuck, refusal: NONE }
+    Answer {
+        done,
+        stuck,
+        refusal: NONE,
+    }
 }
 
 // The same from what reading the sheet gave.
@@ -77,7 +99,21 @@ fn run_good(
     let cells = ends + 2 * count;
     let starts = layout.starts;
     let tables = layout.tables;
-    run_all(sheet, n, ends, &starts, &tables, prices, cells, count, records, nodes, labels, edges, incumbent)
+    run_all(
+        sheet,
+        n,
+        ends,
+        &starts,
+        &tables,
+        prices,
+        cells,
+        count,
+        records,
+        nodes,
+        labels,
+        edges,
+        incumbent,
+    )
 }
 
 pub fn run(
@@ -93,10 +129,18 @@ pub fn run(
     let layout = read(sheet);
     let refusal = lent_refusal(sheet, layout, nodes, labels, edges, incumbent);
     if refusal != NONE {
-        return Answer { done: 0, stuck: 0, refusal };
+        return Answer {
+            done: 0,
+            stuck: 0,
+            refusal,
+        };
     }
     if records.len() % 5 != 0 {
-        return Answer { done: 0, stuck: 0, refusal: PARTIAL_RECORD };
+        return Answer {
+            done: 0,
+            stuck: 0,
+            refusal: PARTIAL_RECORD,
+        };
     }
     run_good(sheet, layout, records, nodes, labels, edges, incumbent)
 }

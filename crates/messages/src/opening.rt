@@ -74,7 +74,13 @@ pub fn open(
     if layout.refusal != NONE {
         return layout.refusal;
     }
-    if lengths_agree(layout, nodes.len(), labels.len(), edges.len(), incumbent.len()) {
+    if lengths_agree(
+        layout,
+        nodes.len(),
+        labels.len(),
+        edges.len(),
+        incumbent.len(),
+    ) {
         let unary = layout.nodes + layout.positions;
         let pairwise = layout.nodes + 5 * layout.positions + 2 * layout.edges;
         fill(sheet, unary, pairwise, nodes, labels, edges, incumbent);

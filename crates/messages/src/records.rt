@@ -82,7 +82,19 @@ pub(crate) fn edge_record(
     ensures { λ r. ⌜ edgeMove r (now (nodes .exit)) (now (edges .exit)) ≡ edgeTaken (instanceOf (now (sheet .entry))) (now (nodes .entry)) (now (edges .entry)) turned u e share ⌝ }
 {
     if legal_edge(sheet, n, ends, count, u, e, share) {
-        move_edge(sheet, n, ends, starts, tables, nodes, edges, turned, u, e, share)
+        move_edge(
+            sheet,
+            n,
+            ends,
+            starts,
+            tables,
+            nodes,
+            edges,
+            turned,
+            u,
+            e,
+            share,
+        )
     } else {
         NO_SUCH_RECORD
     }

@@ -41,10 +41,35 @@ fn message(
 {
     if kind < 3 {
         let turned = kind == 2;
-        edge_record(sheet, n, ends, starts, tables, count, nodes, edges, turned, u, index, share)
+        edge_record(
+            sheet,
+            n,
+            ends,
+            starts,
+            tables,
+            count,
+            nodes,
+            edges,
+            turned,
+            u,
+            index,
+            share,
+        )
     } else {
         let turned = kind == 4;
-        label_record(sheet, n, ends, starts, tables, nodes, labels, turned, u, index, share)
+        label_record(
+            sheet,
+            n,
+            ends,
+            starts,
+            tables,
+            nodes,
+            labels,
+            turned,
+            u,
+            index,
+            share,
+        )
     }
 }
 
@@ -73,15 +98,50 @@ fn one_record(
     ensures { λ r. ⌜ settle (lent (now (nodes .exit)) (now (labels .exit)) (now (edges .exit)) (now (incumbent .exit))) (r .stuck) (r .refusal) ≡ settled (lent (now (nodes .entry)) (now (labels .entry)) (now (edges .entry)) (now (incumbent .entry))) (effect (instanceOf (now (sheet .entry))) filmOut (lent (now (nodes .entry)) (now (labels .entry)) (now (edges .entry)) (now (incumbent .entry))) (kindOf kind) u index share) ⌝ }
 {
     if kind == 5 {
-        return round_record(sheet, n, ends, starts, tables, prices, cells, count, nodes, edges, incumbent, u, index, share);
+        return round_record(
+            sheet,
+            n,
+            ends,
+            starts,
+            tables,
+            prices,
+            cells,
+            count,
+            nodes,
+            edges,
+            incumbent,
+            u,
+            index,
+            share,
+        );
     }
     if kind == 0 {
-        return Taken { stuck: 0, refusal: NO_SUCH_RECORD };
+        return Taken {
+            stuck: 0,
+            refusal: NO_SUCH_RECORD,
+        };
     }
     if 5 < kind {
-        return Taken { stuck: 0, refusal: NO_SUCH_RECORD };
+        return Taken {
+            stuck: 0,
+            refusal: NO_SUCH_RECORD,
+        };
     }
-    let refusal = message(sheet, n, ends, starts, tables, count, nodes, labels, edges, kind, u, index, share);
+    let refusal = message(
+        sheet,
+        n,
+        ends,
+        starts,
+        tables,
+        count,
+        nodes,
+        labels,
+        edges,
+        kind,
+        u,
+        index,
+        share,
+    );
     Taken { stuck: 0, refusal }
 }
 
@@ -109,5 +169,22 @@ pub(crate) fn next_record(
 {
     let u = wide(bytes[1]);
     let index = wide(bytes[2]) + 256 * wide(bytes[3]);
-    one_record(sheet, n, ends, starts, tables, prices, cells, count, nodes, labels, edges, incumbent, bytes[0], u, index, bytes[4])
+    one_record(
+        sheet,
+        n,
+        ends,
+        starts,
+        tables,
+        prices,
+        cells,
+        count,
+        nodes,
+        labels,
+        edges,
+        incumbent,
+        bytes[0],
+        u,
+        index,
+        bytes[4],
+    )
 }

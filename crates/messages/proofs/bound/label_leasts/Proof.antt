@@ -89,10 +89,11 @@ loop-again c =
     let a = start p .args in
     let i = head p .loop .i in
     let x = getD (now (a .labels)) i (pos 0) in
-    let y = getD (head p .loop .least) (p .wide .result) (pos 0) in
-    (omega arith,
-    leasts-turn (instanceOf (now (a .sheet))) (now (a .labels)) (head p .loop .inv .1) (label p) (small p)
-    (same (c .smaller .result) (c .smaller .ok) ∙ c .smaller .ensures ∙ ap₂ minℤ (same x (c .before .before .smaller-arg .given)) (same y (c .before .smaller-arg2 .given))))
+    let y = getD (head p .loop .least) (p .wide .result) (pos 0) in (
+      omega arith,
+      leasts-turn (instanceOf (now (a .sheet))) (now (a .labels)) (head p .loop .inv .1) (label p) (small p)
+          (same (c .smaller .result) (c .smaller .ok) ∙ c .smaller .ensures ∙ ap₂ minℤ (same x (c .before .before .smaller-arg .given)) (same y (c .before .smaller-arg2 .given))),
+    )
 
 returns : tie.Need-returns Inv-loop μ-loop
 returns c =

@@ -25,9 +25,10 @@ label-leasts-requires c κs = search needs
 
 label-sum-requires : tie.Need-label-sum-requires
 label-sum-requires c κs =
-    let q = c .before .before .before in
-    (omega (arith, q .pre .1 .0 .known, proper (q .pre .0) .labelsFew),
-    rw (c .before .label-leasts .ensures) (leasts-within (q .pre .0) (q .pre .1 .1) (q .args .positions)))
+    let q = c .before .before .before in (
+      omega (arith, q .pre .1 .0 .known, proper (q .pre .0) .labelsFew),
+      rw (c .before .label-leasts .ensures) (leasts-within (q .pre .0) (q .pre .1 .1) (q .args .positions)),
+    )
 
 node-sum-requires : tie.Need-node-sum-requires
 node-sum-requires c κs = search needs

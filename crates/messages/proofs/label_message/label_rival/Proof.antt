@@ -52,12 +52,13 @@ loop-again c =
     let h = c .before .before .before .before in
     let q = h .before .before in
     let a = q .args in
-    let m = c .before .before .meet-label in
-    (omega arith,
-    ap₂ _+_ (h .loop .inv .1) (c .wide .ensures .0 ∙ degree-is (q .pre .0) (h .loop .w)) ∙ first-more (instanceOf (now (a .sheet))) (h .loop .w),
-    same (m .result) (m .ok) ∙ m .ensures
-    ∙ ap (λ (z : ℤ). leastFrom z (rivalsAt (instanceOf (now (a .sheet))) (now (a .labels)) (a .own .place) (h .loop .w))) (h .loop .inv .2)
-    ∙ rival-more (instanceOf (now (a .sheet))) (now (a .labels)) (a .own .place) (h .loop .w))
+    let m = c .before .before .meet-label in (
+      omega arith,
+      ap₂ _+_ (h .loop .inv .1) (c .wide .ensures .0 ∙ degree-is (q .pre .0) (h .loop .w)) ∙ first-more (instanceOf (now (a .sheet))) (h .loop .w),
+      same (m .result) (m .ok) ∙ m .ensures
+          ∙ ap (λ (z : ℤ). leastFrom z (rivalsAt (instanceOf (now (a .sheet))) (now (a .labels)) (a .own .place) (h .loop .w))) (h .loop .inv .2)
+          ∙ rival-more (instanceOf (now (a .sheet))) (now (a .labels)) (a .own .place) (h .loop .w),
+    )
 
 returns : tie.Need-returns Inv-loop μ-loop
 returns c =

@@ -39,9 +39,10 @@ shift-label-requires : tie.Need-shift-label-requires
 shift-label-requires c κs =
     let q = c .before .before .before .before .before .before in
     let a = q .args in
-    let f = q .pre .1 in
-    ((place-in (q .pre .0) (now (a .nodes)) (f .nodeLength), place-in (q .pre .0) (now (a .labels)) (f .labelLength)),
-    (f .nodeRange, (f .labelRange, rw (same (c .minus .result) (c .minus .ok), back c) (neg-fits (labelAmount (instanceOf (now (a .sheet))) (now (a .labels)) (a .at + a .k) (a .share)) (label-fits (instanceOf (now (a .sheet))) (now (a .labels)) (f .labelRange) (a .at + a .k) (a .share))))))
+    let f = q .pre .1 in (
+      (place-in (q .pre .0) (now (a .nodes)) (f .nodeLength), place-in (q .pre .0) (now (a .labels)) (f .labelLength)),
+      (f .nodeRange, (f .labelRange, rw (same (c .minus .result) (c .minus .ok), back c) (neg-fits (labelAmount (instanceOf (now (a .sheet))) (now (a .labels)) (a .at + a .k) (a .share)) (label-fits (instanceOf (now (a .sheet))) (now (a .labels)) (f .labelRange) (a .at + a .k) (a .share))))),
+    )
 
 same-length : tie.Need-same-length
 same-length c = search needs

@@ -54,9 +54,10 @@ amount-of-requires : tie.Need-amount-of-requires
 amount-of-requires c κs =
     let q = c .before .before .before .before in
     let l = now (q .args .nodes) in
-    rw (size (c .before))
-    (omega (arith, q .pre .0 .position, length-part l (q .args .at) (instanceOf (now (q .args .sheet)) .degree (q .args .u)) (row-in (q .pre .0) l (q .pre .1 .0))),
-    (q .pre .0 .some, within-part filmOut (q .args .at) (instanceOf (now (q .args .sheet)) .degree (q .args .u)) l (q .pre .1 .1)))
+    rw (size (c .before)) (
+      omega (arith, q .pre .0 .position, length-part l (q .args .at) (instanceOf (now (q .args .sheet)) .degree (q .args .u)) (row-in (q .pre .0) l (q .pre .1 .0))),
+      (q .pre .0 .some, within-part filmOut (q .args .at) (instanceOf (now (q .args .sheet)) .degree (q .args .u)) l (q .pre .1 .1)),
+    )
 
 returns : tie.Need-returns
 returns c =
