@@ -73,6 +73,13 @@ fn message(
     }
 }
 
+// No rounding was stuck.
+fn refused(refusal: u8) -> Taken
+    ensures { λ r. ⌜ (r .stuck ≡ 0) × (r .refusal ≡ refusal) ⌝ }
+{
+    Taken { stuck: 0, refusal }
+}
+
 // A record of any kind; a kind that does not exist is refused.
 fn one_record(
     sheet: &[u8],
@@ -116,18 +123,12 @@ fn one_record(
         );
     }
     if kind == 0 {
-        return Taken {
-            stuck: 0,
-            refusal: NO_SUCH_RECORD,
-        };
+        return refused(NO_SUCH_RECORD);
     }
     if 5 < kind {
-        return Taken {
-            stuck: 0,
-            refusal: NO_SUCH_RECORD,
-        };
+        return refused(NO_SUCH_RECORD);
     }
-    let refusal = message(
+    refused(message(
         sheet,
         n,
         ends,
@@ -141,8 +142,7 @@ fn one_record(
         u,
         index,
         share,
-    );
-    Taken { stuck: 0, refusal }
+    ))
 }
 
 // The record at the head of some bytes: kind, node, index from two bytes, share.

@@ -2,10 +2,18 @@
 use crate::file::after;
 use crate::file::past_bytes;
 use crate::ops;
+use crate::state;
+use crate::state::State;
 use crate::tally;
 use crate::tally::Tally;
 use instance::byte_at;
 use instance::word_at;
+
+// What a call left behind.
+struct Step {
+    state: State,
+    tally: Tally,
+}
 
 // How far the replay is: the place of the next case, and what was counted so far.
 struct Progress {
@@ -50,7 +58,15 @@ fn replay_case(file: &[u8], at: usize, tally: Tally) -> Progress {
         return Progress { at: to, tally };
     }
     let calls = word_at(file, after(file, to, 17));
-    let done = replay_calls(file, after(file, to, 21), calls, &file[from..to], tally);
+    let state = state::begun(file, to);
+    let done = replay_calls(
+        file,
+        after(file, to, 21),
+        calls,
+        &file[from..to],
+        state,
+        tally,
+    );
     if file.len() < done.at {
         return done;
     }
@@ -63,12 +79,22 @@ fn replay_case(file: &[u8], at: usize, tally: Tally) -> Progress {
 }
 
 // The calls of one case, each past the last.
-fn replay_calls(file: &[u8], first: usize, calls: u32, sheet: &[u8], before: Tally) -> Progress {
+fn replay_calls(
+    file: &[u8],
+    first: usize,
+    calls: u32,
+    sheet: &[u8],
+    begun: State,
+    before: Tally,
+) -> Progress {
     let mut tally = before;
+    let mut state = begun;
     let mut at = first;
     let mut left = calls;
     while 0 < left && at <= file.len() {
-        tally = replay_call(file, at, sheet, tally);
+        let step = replay_call(file, at, sheet, state, tally);
+        tally = step.tally;
+        state = step.state;
         at = ops::past_call(file, at);
         left -= 1;
     }
@@ -76,8 +102,11 @@ fn replay_calls(file: &[u8], first: usize, calls: u32, sheet: &[u8], before: Tal
 }
 
 // One call.
-fn replay_call(file: &[u8], at: usize, sheet: &[u8], before: Tally) -> Tally {
+fn replay_call(file: &[u8], at: usize, sheet: &[u8], before: State, tally: Tally) -> Step {
     let op = byte_at(file, at);
-    let verdict = ops::judge(file, op, after(file, at, 1), sheet);
-    tally::counted(before, op, verdict)
+    let outcome = ops::judge(file, op, after(file, at, 1), sheet, before);
+    let state = outcome.state;
+    let verdict = outcome.verdict;
+    let tally = tally::counted(tally, op, verdict);
+    Step { state, tally }
 }

@@ -34,6 +34,20 @@ pub fn number_is(file: &[u8], at: usize, by: usize, value: u64) -> bool {
     number_at(file, after(file, at, by)) == value
 }
 
+// The number between -2^63 and 2^63 that eight bytes stand for.
+pub fn signed(number: u64) -> i64 {
+    if number < 0x8000_0000_0000_0000 {
+        number as i64
+    } else {
+        !((u64::MAX - number) as i64)
+    }
+}
+
+// The same of a cost.
+pub fn cost_is(file: &[u8], at: usize, by: usize, value: i64) -> bool {
+    signed(number_at(file, after(file, at, by))) == value
+}
+
 // The place past a call's answers: their count, the numbers, the hash of the output and that of the state.
 pub fn past_answers(file: &[u8], at: usize) -> usize {
     let numbers = after(file, at, 1);

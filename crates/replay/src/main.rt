@@ -2,10 +2,13 @@
 // how many were compared, how many of those differed, and how many were skipped.
 use libc::STDOUT_FILENO;
 
+mod calls;
 mod cases;
 mod file;
 mod hash;
 mod ops;
+mod state;
+mod state_hash;
 mod tally;
 
 use tally::Tally;

@@ -1,13 +1,19 @@
 // The calls. For each op a function makes the call and says whether its answers and its output are those of the
 // file, of which `at` is the place of the call's parameters.
 //
-// The state hash belongs to the calls that have buffers: until these are here, it is not compared.
+// The state hash is compared after the calls that have buffers, and after each resize and poke. A show or a read has
+// none to change: there it is not compared.
+use crate::calls;
+use crate::calls::Outcome;
+use crate::calls::state_agrees;
 use crate::file::LOST;
 use crate::file::after;
 use crate::file::number_is;
 use crate::file::past_answers;
 use crate::file::past_bytes;
 use crate::hash;
+use crate::state;
+use crate::state::State;
 use crate::tally::Verdict;
 use crate::tally::judged;
 use instance::Layout;
@@ -30,12 +36,43 @@ const RESIZE: u8 = 20;
 
 const POKE: u8 = 21;
 
-// The one place where an op is chosen.
-pub fn judge(file: &[u8], op: u8, at: usize, sheet: &[u8]) -> Verdict {
+// The one place where an op is chosen. Of a case whose buffers are too long for this program, the calls that have
+// buffers are skipped.
+pub fn judge(file: &[u8], op: u8, at: usize, sheet: &[u8], state: State) -> Outcome {
     match op {
-        SHOW => judged(show_agrees(file, at, sheet)),
-        READ => judged(read_agrees(file, at, sheet)),
-        _ => Verdict::Skipped,
+        SHOW => unchanged(state, judged(show_agrees(file, at, sheet))),
+        READ => unchanged(state, judged(read_agrees(file, at, sheet))),
+        RESIZE => changed(file, after(file, at, 5), state::resized(file, at, state)),
+        POKE => changed(file, after(file, at, 13), state::poked(file, at, state)),
+        _ => {
+            if state.fits {
+                called(file, op, at, sheet, state)
+            } else {
+                unchanged(state, Verdict::Skipped)
+            }
+        }
+    }
+}
+
+fn called(file: &[u8], op: u8, at: usize, sheet: &[u8], state: State) -> Outcome {
+    match op {
+        OPEN => calls::open(file, at, sheet, state),
+        RUN => calls::run(file, at, sheet, state),
+        REPORT => calls::report(file, at, sheet, state),
+        _ => unchanged(state, Verdict::Skipped),
+    }
+}
+
+fn unchanged(state: State, verdict: Verdict) -> Outcome {
+    Outcome { state, verdict }
+}
+
+// After a resize or a poke, whose answers are at this place.
+fn changed(file: &[u8], at: usize, state: State) -> Outcome {
+    if state.fits {
+        unchanged(state, judged(state_agrees(file, at, 0, state)))
+    } else {
+        unchanged(state, Verdict::Skipped)
     }
 }
 

@@ -42,11 +42,23 @@ fn more(count: u64) -> u64 {
     std::num::wrapping_add_u64(count, 1)
 }
 
-// Counts one call. What is no call of the crates, a resize or a poke, is not counted.
+// What is no call of the crates, a resize or a poke, is not compared. But where the state after one is not that of the
+// file, this program or the file is wrong, and so that it shows, it counts as an open that differed.
+fn edited(mut tally: Tally, verdict: Verdict) -> Tally {
+    match verdict {
+        Verdict::Differed => {
+            tally.differed[1] = more(tally.differed[1]);
+        }
+        _ => {}
+    }
+    tally
+}
+
+// Counts one call.
 pub fn counted(mut tally: Tally, op: u8, verdict: Verdict) -> Tally {
     let k = op as usize;
     if 8 <= k {
-        return tally;
+        return edited(tally, verdict);
     }
     match verdict {
         Verdict::Agreed => {

@@ -4,10 +4,10 @@ use Rattle.replay.proofs.cases.replay_calls.Statement.{statement}
 use Rattle.replay.proofs.cases.replay_calls.Tie as tie
 
 abbrev Inv-loop : tie.InvT-loop
-Inv-loop file first calls sheet tally₀ at₀ left₀ tally at left = Unit {0}
+Inv-loop file first calls sheet tally₀ state₀ at₀ left₀ tally state at left = Unit {0}
 
 abbrev μ-loop : tie.MeasureT-loop
-μ-loop file first calls sheet tally₀ at₀ left₀ tally at left = left
+μ-loop file first calls sheet tally₀ state₀ at₀ left₀ tally state at left = left
 
 loop-holds : tie.Need-loop-holds Inv-loop μ-loop
 loop-holds c = tt

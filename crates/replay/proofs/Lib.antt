@@ -1,0 +1,2 @@
+-- Laws of the program that replays vectors.
+pub mod CostLaws
