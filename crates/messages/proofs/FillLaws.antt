@@ -7,7 +7,7 @@ use native.Mathlib.Numerals.{add-one}
 use native.Mathlib.Omega.{arith}
 use borrow.Author.Tests.{ltb-true, ltb-false}
 use lib.Dec.{ltb}
-use lib.ListN.{length, getD, set, drop, replicate, List·getD-append, length-append, length-drop, length-set, length-replicate, getD-replicate, drop-of-length-le}
+use lib.ListN.{length, getD, set, drop, replicate, List·getD-append, length-append, length-set, length-replicate, getD-replicate, drop-of-length-le}
 use lib.Seq.{drop-cons, set-at, getD-at, ext-getD}
 use Rattle.integers.specs.Places.{range, tabulate}
 use Rattle.integers.proofs.Places.{by-test, length-tabulate, getD-tabulate}
@@ -15,9 +15,6 @@ use Rattle.integers.proofs.Places.{by-test, length-tabulate, getD-tabulate}
 module _ {A : Type 0} (f : ℕ → A) where
   abbrev pub filledTo : List A → ℕ → List A
   filledTo l i = tabulate i f ++ drop i l
-
-  pub length-filled : (l : List A) (i : ℕ) → i ≤ length l → length (filledTo l i) ≡ length l
-  length-filled l i h = length-append (tabulate i f) (drop i l) ∙ (let a = length-tabulate i f in let b = length-drop i l in omega arith)
 
   pub filled-none : (l : List A) → l ≡ filledTo l 0
   unfolding tabulate range
