@@ -1,4 +1,5 @@
 -- What holds of the rules.
+pub mod Agrees
 pub mod Places
 pub mod Bound
 pub mod Balance
