@@ -1,8 +1,9 @@
 -- An index of things by their keys, made one thing after another.
 -- Assumes nothing.
 use mathlib.Core.Path.{_≡_, refl, sym, ap, ap₂, _∙_, subst}
-use mathlib.Core.Bool.{Bool, true, false}
+use mathlib.Core.Bool.{Bool, true, false, cond}
 use mathlib.Core.List.{List, [], _∷_, _++_, map}
+use mathlib.Core.List.{List·Memᴰ as Mem, List·Memᴰ·head as here, List·Memᴰ·tail as there}
 use Prim.Native.Nat.{ℕ, zero, suc, _+_, _*_, _≤_, _<_}
 use native.Mathlib.Omega.{arith}
 use borrow.Author.Tests.{eq-eqb, ne-eqb, eqb-true, eqb-false, ltb-true, ltb-false}
@@ -29,6 +30,12 @@ unfolding range
 length-range a zero = refl
 length-range a (suc n) = ap suc (length-range (suc a) n)
 
+-- tests that agree select alike
+pub select-ext : (t u : ℕ → Bool) (l : List ℕ) → ((i : ℕ) → Mem i l → t i ≡ u i) → select t l ≡ select u l
+unfolding select
+select-ext t u [] h = refl
+select-ext t u (x ∷ l) h = ap₂ (λ (b : Bool) (k : List ℕ). cond b (x ∷ k) k) (h x (here refl)) (select-ext t u l (λ i m. h i (there m)))
+
 -- one place more
 range-next : (n : ℕ) → range 0 (n + 1) ≡ range 0 n ++ n ∷ []
 unfolding range
@@ -45,6 +52,9 @@ select-past t n e = ap (select t) (range-next n) ∙ select-append t (range 0 n)
     nothing : (l : List ℕ) → l ++ [] ≡ l
     nothing [] = refl
     nothing (x ∷ l) = ap (λ (m : List ℕ). x ∷ m) (nothing l)
+
+pub having-ext : (f g : ℕ → ℕ) (m : ℕ) → ((i : ℕ) → i < m → f i ≡ g i) → (l : ℕ) → having f l m ≡ having g l m
+having-ext f g m h l = select-ext (λ i. eqb (f i) l) (λ i. eqb (g i) l) (range 0 m) (λ i b. ap (λ (k : ℕ). eqb k l) (h i (let c = range-mem 0 m b in omega arith)))
 
 -- ---- making it
 
@@ -154,3 +164,12 @@ module _ {key : ℕ → ℕ} {i : ℕ} {index : List ℕ} (x : Indexed key i ind
             let g : j < c = omega (arith, counted) in
             let b = x .inside k j small g in
             omega (arith, stays (65 * k + 1 + j) (λ z. omega arith) (λ z. d (omega arith)), ap (λ (p : ℕ). getD after p 0) e))
+
+-- keys that agree have one index
+pub indexed-ext : {f g : ℕ → ℕ} {m n : ℕ} {index : List ℕ} → m ≡ n → ((i : ℕ) → i < m → f i ≡ g i) → Indexed f m index → Indexed g n index
+indexed-ext {f} {g} {m} {n} {index} e h x = record {
+  size = x .size;
+  few = x .few;
+  rows = λ l b. x .rows l b ∙ having-ext f g m h l ∙ ap (having g l) e;
+  inside = λ l j b c. let a = x .inside l j b c in omega arith;
+}
