@@ -1,23 +1,19 @@
 -- Contracts of the private functions: a buffer in which some records are to stand, one after another, and of which some are still to be written.
 use mathlib.Core.Path.{_≡_}
-use mathlib.Core.List.{List, [], _∷_}
-use Prim.Native.Nat.{ℕ, suc, _+_, _*_, _≤_, _<_}
+use mathlib.Core.List.{List, []}
+use Prim.Native.Nat.{ℕ, _+_, _*_, _≤_, _<_}
 use lib.Dec.{eqb}
-use lib.ListN.{length, set, getD}
+use lib.ListN.{length, getD}
+use lib.Seq.{sets}
 use Rattle.integers.specs.Places.{range, select}
 use Rattle.instance.specs.Bytes.{byte}
 use Rattle.instance.specs.Instance.{first}
 use Rattle.instance.specs.Sheet.{instanceOf, endsAt, refusalOf}
 use Rattle.schedule.specs.Sweep.{Entry, bytes}
 
--- the buffer with the bytes l from `at` on
-unfoldable pub over : List ℕ → ℕ → List ℕ → List ℕ
-over out at [] = out
-over out at (b ∷ l) = over (set out at b) (suc at) l
-
 -- with `rest` written from `at` on, `out` is what it is to be: `out₀` with `whole` from `at₀` on
 pub record Writing (out₀ : List ℕ) (at₀ : ℕ) (whole : List Entry) (out : List ℕ) (at : ℕ) (rest : List Entry) : Type 0 where
-  pub content : over out at (bytes rest) ≡ over out₀ at₀ (bytes whole)
+  pub content : sets out at (bytes rest) ≡ sets out₀ at₀ (bytes whole)
   pub place : at + 5 * length rest ≡ at₀ + 5 * length whole
 
 -- all of it is written, and `at` is the place after it

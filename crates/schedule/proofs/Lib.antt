@@ -1,0 +1,6 @@
+-- Laws of the sweeps, and of writing them.
+pub mod WritingLaws
+pub mod CountLaws
+pub mod Lengths
+pub mod Sight
+pub mod Written
