@@ -14,7 +14,7 @@ use Rattle.instance.specs.Sheet.{instanceOf, nodesOf, endsAt}
 use Rattle.instance.specs.Readable.{Proper, Readable}
 use Rattle.instance.proofs.Readable.{readable}
 use Rattle.instance.proofs.LaidOut.{row-inside}
-use Rattle.schedule.specs.Sweep.{toLower, toHigher, positions, labelled}
+use Rattle.schedule.specs.Sweep.{each, fromLabel, toLower, toHigher, positions, labelled, labelAt}
 use Rattle.schedule.specs.Writing.{Known, Begun, ended, having}
 use Rattle.schedule.proofs.Lengths.{higher-few, lower-few}
 
@@ -70,6 +70,11 @@ module _ {s : List ℕ} {n ends edges : ℕ} (w : Known s n ends edges) where
 
   pub degree-few : {u : ℕ} → u < n → byte s u ≤ 16
   degree-few {u} h = omega (arith, degree-is u, proper .few u (omega (arith, w .nodes)))
+
+  -- a label's list, node by node
+  pub label-rows : (l : ℕ) → each (λ u. fromLabel u (labelled I l u)) (range 0 n) ≡ labelAt I l
+  unfolding labelAt
+  label-rows l = ap (λ (m : ℕ). each (λ u. fromLabel u (labelled I l u)) (range 0 m)) (w .nodes)
 
   -- the labels of a node
   module _ {starts : List ℕ} (b : Begun s starts) {u : ℕ} (h : u < n) where

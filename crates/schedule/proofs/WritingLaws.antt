@@ -39,6 +39,10 @@ module _ {out₀ : List ℕ} {at₀ : ℕ} {whole : List Entry} {out : List ℕ}
   pub writing-as : {k l : List Entry} → k ≡ l → Writing out₀ at₀ whole out at k → Writing out₀ at₀ whole out at l
   writing-as e w = subst (λ (r : List Entry). Writing out₀ at₀ whole out at r) e w
 
+  -- the whole in other words
+  pub writing-for : {whole′ l : List Entry} → whole ≡ whole′ → Writing out₀ at₀ whole out at l → Writing out₀ at₀ whole′ out at l
+  writing-for {whole′} {l} e w = subst (λ (r : List Entry). Writing out₀ at₀ r out at l) e w
+
   -- the first of what is left, k, was written
   pub writing-more : (k l : List Entry) {out′ : List ℕ} {at′ : ℕ} → Writing out₀ at₀ whole out at (k ++ l) → Wrote out at k out′ at′ → Writing out₀ at₀ whole out′ at′ l
   unfolding bytes
@@ -57,9 +61,25 @@ module _ {out₀ : List ℕ} {at₀ : ℕ} {whole : List Entry} {out : List ℕ}
 
   -- there is room for it
   pub writing-room : (k l : List Entry) → Writing out₀ at₀ whole out at (k ++ l) → Room out₀ at₀ whole → Room out at k
-  writing-room k l w h = omega (arith, w .place, writing-size (k ++ l) w, length-append k l)
+  writing-room k l w h = record { fits = omega (arith, w .place, writing-size (k ++ l) w, length-append k l, h .fits) }
+
+-- ---- one list after another
+
+module _ (k l : List Entry) {out : List ℕ} {at : ℕ} where
+  pub room-left : Room out at (k ++ l) → Room out at k
+  room-left r = record { fits = omega (arith, length-append k l, r .fits) }
+
+  module _ {out′ : List ℕ} {at′ : ℕ} (w : Wrote out at k out′ at′) where
+    pub room-right : Room out at (k ++ l) → Room out′ at′ l
+    room-right r = record { fits = omega (arith, length-append k l, w .place, writing-size [] w, r .fits) }
+
+    pub wrote-append : {out″ : List ℕ} {at″ : ℕ} → Wrote out′ at′ l out″ at″ → Wrote out at (k ++ l) out″ at″
+    wrote-append v = writing-more l [] (writing-as (sym (append-nil l)) (writing-more k l (writing-start out at (k ++ l)) w)) v
 
 -- a whole buffer
+pub room-whole : {out : List ℕ} (l : List Entry) → length out ≡ length (bytes l) → Room out 0 l
+room-whole l e = record { fits = omega (arith, e, length-bytes l) }
+
 pub wrote-all : {out out′ : List ℕ} {at′ : ℕ} (l : List Entry) → Wrote out 0 l out′ at′ → length out ≡ length (bytes l) → out′ ≡ bytes l
 unfolding bytes
 wrote-all {out} {out′} {at′} l w e =

@@ -21,8 +21,8 @@ abbrev pub Wrote : List ℕ → ℕ → List Entry → List ℕ → ℕ → Type
 Wrote out₀ at₀ whole out at = Writing out₀ at₀ whole out at []
 
 -- there is room for it
-abbrev pub Room : List ℕ → ℕ → List Entry → Type 0
-Room out at l = at + 5 * length l ≤ length out
+pub record Room (out : List ℕ) (at : ℕ) (l : List Entry) : Type 0 where
+  pub fits : at + 5 * length l ≤ length out
 
 -- ---- what a function is handed of a sheet that was read and not refused
 

@@ -1,42 +1,46 @@
+-- `from_labels` meets its contract: a list for each label, falling.
+use native.Mathlib.Omega.{arith}
+use denote.Ref.{now}
+use Rattle.instance.specs.Sheet.{instanceOf}
+use Rattle.schedule.specs.Sweep.{each, falling, labelAt}
+use Rattle.schedule.specs.Writing.{Writing}
+use Rattle.schedule.proofs.WritingLaws.{writing-start, writing-size, falling-room, falling-more, falling-end}
 use Rattle.schedule.proofs.labels.from_labels.Statement.{statement}
 use Rattle.schedule.proofs.labels.from_labels.Tie as tie
-use Rattle.schedule.proofs.labels.from_labels.Reads as reads
-use Rattle.schedule.proofs.labels.from_labels.Lts as lts
-use Rattle.schedule.proofs.labels.from_label.Reads as from-label-reads
 
 abbrev Inv-loop : tie.InvT-loop
-Inv-loop sheet n ends edges starts labels out₀ at next₀ l₀ out next l = ?
+Inv-loop sheet n ends edges starts labels out₀ at next₀ l₀ out next l =
+    Writing out₀ at (each (labelAt (instanceOf sheet)) (falling labels)) out next (each (labelAt (instanceOf sheet)) (falling l))
 
 abbrev μ-loop : tie.MeasureT-loop
-μ-loop sheet n ends edges starts labels out₀ at next₀ l₀ out next l = ?
+μ-loop sheet n ends edges starts labels out₀ at next₀ l₀ out next l = l
 
--- src/labels.rt:97:5
 loop-holds : tie.Need-loop-holds Inv-loop μ-loop
-loop-holds c = ?
+loop-holds c = let a = c .before .before .args in writing-start (now (a .out)) (a .at) (each (labelAt (instanceOf (now (a .sheet)))) (falling (a .labels)))
 
--- src/labels.rt:98:9
 sub-l : tie.Need-sub-l Inv-loop μ-loop
-sub-l c = ?
+sub-l c = omega arith
 
--- src/labels.rt:99:9
 from-label-requires : tie.Need-from-label-requires Inv-loop μ-loop
-from-label-requires c κs = ?
+from-label-requires c κs =
+    let p = c .before .before in
+    let q = p .before .before .before in
+    (q .pre .0, (q .pre .1 .0, falling-room (labelAt (instanceOf (now (q .args .sheet)))) (p .loop .inv) (c .before .loop-test .taken) (q .pre .1 .1)))
 
--- src/labels.rt:97:5
 loop-less : tie.Need-loop-less Inv-loop μ-loop
-loop-less c = ?
+loop-less c = omega arith
 
--- src/labels.rt:97:5
 loop-again : tie.Need-loop-again Inv-loop μ-loop
-loop-again c = ?
+loop-again c =
+    let i = c .before .before .before .before in
+    let p = i .before in
+    falling-more (labelAt (instanceOf (now (p .before .before .before .args .sheet)))) (p .loop .inv) (i .loop-test .taken) (c .before .before .from-label .ensures)
 
--- src/labels.rt:80:1
 same-length : tie.Need-same-length Inv-loop μ-loop
-same-length c = ?
+same-length c = writing-size _ (c .before .loop .inv)
 
--- src/labels.rt:80:1
 returns : tie.Need-returns Inv-loop μ-loop
-returns c = ?
+returns c = falling-end (labelAt (instanceOf (now (c .before .before .before .before .args .sheet)))) (c .before .loop .inv) (omega (arith, c .loop-test .left))
 
 pub from-labels-spec : {M : Type 1} → statement M
 from-labels-spec =

@@ -1,26 +1,52 @@
+-- `forward` meets its contract: the nodes' lists, and then the rounding.
+use mathlib.Core.Path.{sym, ap}
+use mathlib.Core.List.{List, _++_}
+use Prim.Native.Nat.{ℕ}
+use native.Mathlib.Omega.{arith}
 use borrow.Author.Needs.{needs}
+use denote.Ref.{now}
+use Rattle.integers.specs.Places.{range}
+use Rattle.instance.specs.Instance.{Instance}
+use Rattle.instance.specs.Sheet.{instanceOf}
+use Rattle.schedule.specs.Sweep.{Entry, each, rounding, forwardAt, forward}
+use Rattle.schedule.specs.Writing.{Room}
+use Rattle.schedule.proofs.WritingLaws.{room-whole, room-left, room-right, wrote-append, wrote-all}
 use Rattle.schedule.proofs.sweep.forward.Statement.{statement}
 use Rattle.schedule.proofs.sweep.forward.Tie as tie
-use Rattle.schedule.proofs.sweep.forward.Reads as reads
-use Rattle.schedule.proofs.sweep.forward.Lts as lts
-use Rattle.schedule.proofs.put.put.Reads as put-reads
-use Rattle.schedule.proofs.sweep.forward_nodes.Reads as forward-nodes-reads
 
--- src/sweep.rt:114:9
+module _ (q : tie.Start) where
+  abbrev I : Instance
+  I = instanceOf (now (q .args .sheet))
+
+  -- the nodes' lists
+  abbrev nodes : List Entry
+  nodes = each (forwardAt I) (range 0 (I .nodeCount))
+
+  room : Room (now (q .args .out)) 0 (nodes ++ rounding)
+  unfolding forward
+  room = room-whole (nodes ++ rounding) (q .pre .1)
+
 forward-nodes-requires : tie.Need-forward-nodes-requires
-forward-nodes-requires c κs = ?
+forward-nodes-requires c κs =
+    let q = c .before .before .before in
+    (q .pre .0, rw (q .pre .0 .nodes) (room-left (nodes q) rounding (room q)))
 
--- src/sweep.rt:115:5
 put-requires : tie.Need-put-requires
-put-requires c κs = ?
+unfolding rounding
+put-requires c κs =
+    let q = c .before .before .before .before .before .before .before in
+    let w = rw (q .pre .0 .nodes) at (c .before .before .before .forward-nodes .ensures) in
+    (room-right (nodes q) rounding w (room q), (omega arith, omega arith, omega arith))
 
--- src/sweep.rt:109:1
 same-length : tie.Need-same-length
 same-length c = search needs
 
--- src/sweep.rt:109:1
 returns : tie.Need-returns
-returns c = ?
+unfolding forward rounding
+returns c =
+    let q = c .before .before .before .before .before .before .before .before .before .before in
+    let w = rw (q .pre .0 .nodes) at (c .before .before .before .before .before .before .forward-nodes .ensures) in
+    wrote-all (nodes q ++ rounding) (wrote-append (nodes q) rounding w (c .before .before .put .ensures)) (q .pre .1)
 
 pub forward-spec : {M : Type 1} → statement M
 forward-spec = tie.close (tie.spec forward-nodes-requires put-requires same-length returns)
