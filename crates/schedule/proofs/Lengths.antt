@@ -144,7 +144,7 @@ module _ (I : Instance) where
         let f = offset-add n (λ u. length (toLower I u)) (λ u. length (toHigher I u)) in
         omega (arith, all-lower, all-higher, all-labelled, length-rounding)
 
-    -- either
+    -- either: in records, and in bytes
     pub sweep-records : (direction : ℕ) → length (sweep I direction) ≡ sweepRecords I
     unfolding sweep
     sweep-records direction = by-cond (λ (l : List Entry). length l ≡ sweepRecords I) (eqb direction 0) (λ _. forward-records) (λ _. backward-records)

@@ -1,21 +1,39 @@
 -- The answer of `write_sweep`, case by case.
 -- Assumes nothing.
-use mathlib.Core.Path.{_≡_, refl, sym, ap, _∙_}
-use mathlib.Core.Bool.{Bool, true, false, cond}
+use mathlib.Core.Path.{_≡_, sym, ap, _∙_}
+use mathlib.Core.Bool.{true, false, cond}
 use mathlib.Core.List.{List, [], _∷_, _++_}
-use Prim.Native.Nat.{ℕ, _<_}
+use Prim.Native.Nat.{ℕ, _≤_, _<_}
 use native.Mathlib.Omega.{arith}
-use borrow.Author.Tests.{eq-eqb, ne-eqb}
+use borrow.Author.Tests.{eq-eqb, ne-eqb, eqb-false}
 use lib.Dec.{eqb}
 use lib.ListN.{length}
 use Rattle.integers.specs.Checks.{firstFailure}
-use Rattle.integers.proofs.Places.{if-true, if-false}
+use Rattle.integers.proofs.Places.{by-test, if-true, if-false}
 use Rattle.integers.proofs.Checks.{failure-append, passes, fails}
 use Rattle.instance.specs.Instance.{Instance}
 use Rattle.instance.specs.Sheet.{instanceOf, checks, refusalOf}
 use Rattle.instance.proofs.Shown.{checks-numbered}
-use Rattle.schedule.specs.Sweep.{bytes, sweep, known, sweepLength}
+use Rattle.schedule.specs.Sweep.{bytes, forward, backward, sweep, known, sweepLength}
 use Rattle.schedule.specs.Written.{written, ownChecks, sweepRefusal, sweepOf}
+
+pub known-yes : (direction : ℕ) → direction ≤ 1 → known direction ≡ true
+unfolding known
+known-yes direction h =
+    by-test (eqb direction 0) (λ e. rw e) (λ e. let z : direction ≡ 0 → ⊥ = eqb-false direction 0 e in rw (e, eq-eqb direction 1 (omega arith)))
+
+pub known-no : (direction : ℕ) → 1 < direction → known direction ≡ false
+unfolding known
+known-no direction h = rw (ne-eqb direction 0 (λ z. omega arith), ne-eqb direction 1 (λ z. omega arith))
+
+module _ (I : Instance) {direction : ℕ} where
+  pub forward-is : direction ≡ 0 → sweep I direction ≡ forward I
+  unfolding sweep
+  forward-is e = if-true (forward I) (backward I) (eq-eqb direction 0 e)
+
+  pub backward-is : (direction ≡ 0 → ⊥) → sweep I direction ≡ backward I
+  unfolding sweep
+  backward-is h = if-false (forward I) (backward I) (ne-eqb direction 0 h)
 
 module _ (s : List ℕ) (direction : ℕ) (out : List ℕ) where
   abbrev I : Instance
