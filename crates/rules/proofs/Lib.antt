@@ -6,6 +6,7 @@ pub mod Rise
 pub mod Rounding
 pub mod Run
 pub mod Calls
+pub mod Legal
 pub mod Bridge
 pub mod Loops
 pub mod Limits

@@ -7,7 +7,7 @@ use mathlib.Core.List.{List·Memᴰ as Mem, List·Memᴰ·head as here, List·Me
 use Prim.Native.Nat.{ℕ, zero, suc, _+_, _≤_, _<_}
 use native.Mathlib.Nat.{not-suc-le-zero}
 use native.Mathlib.Omega.{arith}
-use borrow.Author.Tests.{eq-eqb, ne-eqb, eqb-true, eqb-false}
+use borrow.Author.Tests.{ne-eqb, eqb-true, eqb-false}
 use lib.Dec.{eqb}
 use lib.ListN.{length}
 use Rattle.integers.specs.Places.{range, select, offset}

@@ -1,7 +1,6 @@
 -- "Either has 2E + N + 1 records"; and how many edges a node has, by the order of the edges.
 -- Assumes nothing.
-use mathlib.Core.Path.{_≡_, refl, sym, ap, ap₂, _∙_}
-use mathlib.Core.Bool.{Bool, true, cond}
+use mathlib.Core.Path.{_≡_, refl, ap, ap₂, _∙_}
 use mathlib.Core.List.{List, [], _∷_, _++_, map}
 use mathlib.Core.List.{List·Memᴰ as Mem}
 use mathlib.Core.Logic.{_⊎_, inl, inr, ⊎-elim}
@@ -11,7 +10,7 @@ use native.Mathlib.Omega.{arith}
 use borrow.Author.Tests.{eqb-true, eqb-false}
 use lib.Dec.{eqb}
 use lib.ListN.{length, length-append}
-use Rattle.integers.specs.Places.{range, select, offset}
+use Rattle.integers.specs.Places.{range, offset}
 use Rattle.integers.proofs.Places.{by-test, by-cond, range-mem}
 use Rattle.integers.proofs.Ranges.{range-add}
 use Rattle.instance.specs.Instance.{Instance, first, nodeCells}
@@ -118,7 +117,7 @@ module _ (I : Instance) where
         offset-ext (I .labelCount) (λ l. length (labelAt I l)) (λ l. offset (λ u. length (labelled I l u)) (I .nodeCount)) (λ l _. length-labelAt l)
         ∙ offset-swap (I .labelCount) (I .nodeCount) (λ l u. length (labelled I l u))
         ∙ offset-ext (I .nodeCount) (λ u. offset (λ l. length (labelled I l u)) (I .labelCount)) (I .degree) (λ u h.
-            by-value (λ k. I .label (first I u + k)) (I .labelCount) (range 0 (I .degree u)) (λ k m. p .known u k h (mem-below m)) ∙ length-range 0 (I .degree u))
+        by-value (λ k. I .label (first I u + k)) (I .labelCount) (range 0 (I .degree u)) (λ k m. p .known u k h (mem-below m)) ∙ length-range 0 (I .degree u))
 
     pub forward-records : length (forward I) ≡ sweepRecords I
     unfolding forward sweepRecords first

@@ -4,3 +4,4 @@ pub mod CountLaws
 pub mod Lengths
 pub mod Sight
 pub mod Written
+pub mod Legal

@@ -6,7 +6,7 @@ use mathlib.Core.List.{List, [], _∷_, _++_, map, append-nil}
 use Prim.Native.Nat.{ℕ, suc, _+_, _-_, _*_, _/_, _%_, _≤_, _<_}
 use native.Mathlib.Numerals.{add-one}
 use native.Mathlib.Omega.{arith}
-use lib.ListN.{length, set, drop, length-append, drop-of-length-le}
+use lib.ListN.{length, set, length-append, drop-of-length-le}
 use lib.Seq.{sets, sets-eq, length-sets}
 use Rattle.integers.specs.Places.{range, select}
 use Rattle.schedule.specs.Sweep.{Entry, entry, bytes, each, falling, toEdges}

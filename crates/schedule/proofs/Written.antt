@@ -2,10 +2,10 @@
 -- Assumes nothing.
 use mathlib.Core.Path.{_≡_, sym, ap, _∙_}
 use mathlib.Core.Bool.{true, false, cond}
-use mathlib.Core.List.{List, [], _∷_, _++_}
+use mathlib.Core.List.{List, [], _∷_}
 use Prim.Native.Nat.{ℕ, _≤_, _<_}
 use native.Mathlib.Omega.{arith}
-use borrow.Author.Tests.{eq-eqb, ne-eqb, eqb-false}
+use borrow.Author.Tests.{eq-eqb, ne-eqb, eqb-true, eqb-false}
 use lib.Dec.{eqb}
 use lib.ListN.{length}
 use Rattle.integers.specs.Checks.{firstFailure}
@@ -72,3 +72,9 @@ module _ (s : List ℕ) (direction : ℕ) (out : List ℕ) where
   pub swept : refusalOf s ≡ 0 → known direction ≡ true → length out ≡ sweepLength I → written (bytes (sweep I direction)) 0 ≡ sweepOf s direction out
   unfolding sweepOf
   swept e h d = sym (ap (λ (k : ℕ). written (cond (eqb k 0) (bytes (sweep I direction)) out) k) (unrefused e h d))
+
+  -- not refused: the sheet is readable
+  pub unrefused-readable : sweepRefusal s direction out ≡ 0 → refusalOf s ≡ 0
+  unrefused-readable e =
+      by-test (eqb (refusalOf s) 0) (λ t. eqb-true (refusalOf s) 0 t)
+      (λ t. sym (by-checks ∙ if-false (firstFailure (ownChecks s direction out)) (refusalOf s) t) ∙ e)

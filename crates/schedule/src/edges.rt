@@ -24,7 +24,14 @@ pub(crate) fn count_edges(sheet: &[u8], from: usize, edges: usize, u: usize) -> 
 }
 
 // Kind 2 with share 1 from each of them.
-pub(crate) fn from_edges(sheet: &[u8], from: usize, edges: usize, u: usize, out: &mut [u8], at: usize) -> usize
+pub(crate) fn from_edges(
+    sheet: &[u8],
+    from: usize,
+    edges: usize,
+    u: usize,
+    out: &mut [u8],
+    at: usize,
+) -> usize
     requires { ⌜ (from + 2 * edges ≤ length (now sheet)) × (edges ≤ 256) × (u < 256) ⌝ }
     requires { ⌜ Room (now out) at (fromEdges u (ended (now sheet) from edges u)) ⌝ }
     ensures { λ r. ⌜ Wrote (now (out .entry)) at (fromEdges u (ended (now (sheet .entry)) from edges u)) (now (out .exit)) r ⌝ }

@@ -1,9 +1,8 @@
 // Records between a node and its labels: kinds 3 and 4.
 use crate::put::put;
 use crate::put::wide;
-ghost use mathlib.Core.Path.{_≡_};
-ghost use Prim.Native.Nat.{ℕ, _+_, _≤_, _<_};
-ghost use lib.ListN.{length, getD};
+ghost use Prim.Native.Nat.{_+_, _≤_, _<_};
+ghost use lib.ListN.{length};
 ghost use Rattle.integers.specs.Places.{range};
 ghost use Rattle.instance.specs.Sheet.{instanceOf};
 ghost use Rattle.schedule.specs.Sweep.{each, falling, toLabels, fromLabel, labelAt};

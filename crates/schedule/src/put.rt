@@ -6,7 +6,14 @@ ghost use Rattle.schedule.specs.Sweep.{entry};
 ghost use Rattle.schedule.specs.Writing.{Wrote, Room};
 
 // A record of five bytes at `at`; answers the place after it.
-pub(crate) fn put(out: &mut [u8], at: usize, kind: u8, node: usize, index: usize, share: usize) -> usize
+pub(crate) fn put(
+    out: &mut [u8],
+    at: usize,
+    kind: u8,
+    node: usize,
+    index: usize,
+    share: usize,
+) -> usize
     requires { ⌜ Room (now out) at (entry kind node index share ∷ []) ⌝ }
     requires { ⌜ (node < 256) × (index < 65_536) × (share < 256) ⌝ }
     ensures { λ r. ⌜ Wrote (now (out .entry)) at (entry kind node index share ∷ []) (now (out .exit)) r ⌝ }

@@ -11,8 +11,7 @@ use messages::refusal::BUFFER_LENGTH;
 use messages::refusal::NO_SUCH_RECORD;
 use messages::refusal::NONE;
 ghost use mathlib.Core.Path.{_≡_};
-ghost use mathlib.Core.List.{List, _++_};
-ghost use Prim.Native.Nat.{_≤_, _<_};
+ghost use Prim.Native.Nat.{_<_};
 ghost use lib.ListN.{length};
 ghost use Rattle.integers.specs.Places.{range};
 ghost use Rattle.instance.specs.Sheet.{instanceOf};
@@ -132,8 +131,8 @@ fn backward(
     ensures { λ _. ⌜ now (out .exit) ≡ bytes (backwardList (instanceOf (now (sheet .entry)))) ⌝ }
 {
     let received = from_labels(sheet, n, ends, edges, starts, labels, out, 0);
-    let at = backward_nodes(sheet, n, ends, edges, out, received);
-    put(out, at, 5, 0, 0, 0);
+    let sent = backward_nodes(sheet, n, ends, edges, out, received);
+    put(out, sent, 5, 0, 0, 0);
 }
 
 // Writes the forward (0) or the backward (1) sweep of a sheet into a buffer of exactly its length.

@@ -67,9 +67,9 @@ loop-again c =
       omega arith,
       ⊎-elim (λ w. omega arith) (λ w. omega arith) (c .if1 .came),
       ⊎-elim
-      (λ w. let m : h (p .loop .e) ≡ true = eq-eqb _ _ (sym b ∙ w .0 .taken) in omega (arith, counted-hit h k m, p .loop .inv .2))
-      (λ w. let m : h (p .loop .e) ≡ false = ne-eqb _ _ (λ z. w .0 .left (b ∙ z)) in omega (arith, counted-miss h k m, p .loop .inv .2))
-      (c .if1 .came),
+          (λ w. let m : h (p .loop .e) ≡ true = eq-eqb _ _ (sym b ∙ w .0 .taken) in omega (arith, counted-hit h k m, p .loop .inv .2))
+          (λ w. let m : h (p .loop .e) ≡ false = ne-eqb _ _ (λ z. w .0 .left (b ∙ z)) in omega (arith, counted-miss h k m, p .loop .inv .2))
+          (c .if1 .came),
     )
 
 returns : tie.Need-returns Inv-loop μ-loop

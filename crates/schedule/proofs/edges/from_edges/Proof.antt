@@ -9,7 +9,6 @@ use borrow.Author.Needs.{needs}
 use borrow.Author.Tests.{eq-eqb, ne-eqb}
 use denote.Ref.{now}
 use lib.Dec.{eqb}
-use lib.ListN.{length}
 use Rattle.integers.specs.Places.{select}
 use Rattle.instance.specs.Bytes.{byte}
 use Rattle.schedule.specs.Sweep.{Entry, entry, fromEdges}
@@ -72,9 +71,9 @@ loop-again c =
     let g = c .before .wide .ensures .0 in (
       omega arith,
       ⊎-elim
-      (λ w. rw (w .5, w .6) (turns-hit (t (now (a .sheet)) (a .from) (a .u)) (f (a .u)) (p .loop .inv .1) (i .loop-test .taken) (eq-eqb _ _ (sym g ∙ w .0 .taken)) (w .2 .ensures)))
-      (λ w. rw (w .1, w .2) (turns-miss (t (now (a .sheet)) (a .from) (a .u)) (f (a .u)) (p .loop .inv .1) (i .loop-test .taken) (ne-eqb _ _ (λ z. w .0 .left (g ∙ z)))))
-      (c .if1 .came),
+          (λ w. rw (w .5, w .6) (turns-hit (t (now (a .sheet)) (a .from) (a .u)) (f (a .u)) (p .loop .inv .1) (i .loop-test .taken) (eq-eqb _ _ (sym g ∙ w .0 .taken)) (w .2 .ensures)))
+          (λ w. rw (w .1, w .2) (turns-miss (t (now (a .sheet)) (a .from) (a .u)) (f (a .u)) (p .loop .inv .1) (i .loop-test .taken) (ne-eqb _ _ (λ z. w .0 .left (g ∙ z)))))
+          (c .if1 .came),
     )
 
 same-length : tie.Need-same-length Inv-loop μ-loop

@@ -97,13 +97,13 @@ loop-again c =
       omega arith,
       ⊎-elim (λ w. omega (arith, w .7, p .loop .inv .1)) (λ w. omega (arith, w .3, p .loop .inv .1)) (c .if1 .came),
       ⊎-elim
-      (λ w. let m : h (p .loop .e) ≡ true = eq-eqb _ _ (sym b ∙ w .0 .taken) in omega (arith, w .7, counted-hit h k m, p .loop .inv .2))
-      (λ w. let m : h (p .loop .e) ≡ false = ne-eqb _ _ (λ z. w .0 .left (b ∙ z)) in omega (arith, w .3, counted-miss h k m, p .loop .inv .2))
-      (c .if1 .came),
+          (λ w. let m : h (p .loop .e) ≡ true = eq-eqb _ _ (sym b ∙ w .0 .taken) in omega (arith, w .7, counted-hit h k m, p .loop .inv .2))
+          (λ w. let m : h (p .loop .e) ≡ false = ne-eqb _ _ (λ z. w .0 .left (b ∙ z)) in omega (arith, w .3, counted-miss h k m, p .loop .inv .2))
+          (c .if1 .came),
       ⊎-elim
-      (λ w. rw (w .5, w .6, w .7) (shares-hit h (a .u) (p .loop .left) (p .loop .inv .3) k (eq-eqb _ _ (sym b ∙ w .0 .taken)) (w .2 .ensures)))
-      (λ w. rw (w .1, w .2, w .3) (shares-miss h (a .u) (p .loop .left) (p .loop .inv .3) k (ne-eqb _ _ (λ z. w .0 .left (b ∙ z)))))
-      (c .if1 .came),
+          (λ w. rw (w .5, w .6, w .7) (shares-hit h (a .u) (p .loop .left) (p .loop .inv .3) k (eq-eqb _ _ (sym b ∙ w .0 .taken)) (w .2 .ensures)))
+          (λ w. rw (w .1, w .2, w .3) (shares-miss h (a .u) (p .loop .left) (p .loop .inv .3) k (ne-eqb _ _ (λ z. w .0 .left (b ∙ z)))))
+          (c .if1 .came),
     )
 
 same-length : tie.Need-same-length Inv-loop μ-loop

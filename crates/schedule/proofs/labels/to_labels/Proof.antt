@@ -1,6 +1,6 @@
 -- `to_labels` meets its contract: a record for each position.
-use mathlib.Core.Path.{_≡_, refl, ap}
-use mathlib.Core.List.{List, [], _∷_, map}
+use mathlib.Core.Path.{ap}
+use mathlib.Core.List.{[], _∷_, map}
 use Prim.Native.Nat.{ℕ, _+_, _-_, _≤_}
 use native.Mathlib.Omega.{arith}
 use denote.Ref.{now}

@@ -1,7 +1,5 @@
 -- `forward` meets its contract: the nodes' lists, and then the rounding.
-use mathlib.Core.Path.{sym, ap}
 use mathlib.Core.List.{List, _++_}
-use Prim.Native.Nat.{ℕ}
 use native.Mathlib.Omega.{arith}
 use borrow.Author.Needs.{needs}
 use denote.Ref.{now}

@@ -7,7 +7,7 @@ use borrow.Author.Needs.{needs}
 use denote.Ref.{now}
 use lib.ListN.{length}
 use Rattle.instance.specs.declared.reading.Layout.{Layout}
-use Rattle.instance.specs.Instance.{Instance, first}
+use Rattle.instance.specs.Instance.{first}
 use Rattle.instance.specs.Sheet.{instanceOf, refusalOf}
 use Rattle.instance.proofs.LaidOut.{LaidOut, refusal-is, laid-out}
 use Rattle.schedule.specs.Sweep.{bytes, sweep, sweepRecords, sweepLength}
@@ -68,7 +68,7 @@ returns c =
     ap (written (now (a .out))) n ∙ unread (now (a .sheet)) (a .direction) (now (a .out)) (λ z. c .if1 .taken (n ∙ z))
 
 returns-2 : tie.Need-returns-2
-returns-2 c = let p = c .before in unknown (s p) (direction p) (out p) (unrefused p) (known-no (direction p) (c .if2 .taken))
+returns-2 c = let p = c .before in unknown (s p) (direction p) (out p) (unrefused p) (known-no (direction p) (omega (arith, c .if2 .taken)))
 
 mul-if3 : tie.Need-mul-if3
 mul-if3 c = omega (arith, laid (c .before))
@@ -85,7 +85,7 @@ mul-if3-2 c = omega (arith, laid (c .before .before))
 returns-3 : tie.Need-returns-3
 returns-3 c =
     let p = c .before .before .before in
-    unfit (s p) (direction p) (out p) (unrefused p) (known-yes (direction p) (c .before .before .if2 .left)) (λ z. c .if3 .taken (z ∙ sym (size-is p)))
+    unfit (s p) (direction p) (out p) (unrefused p) (known-yes (direction p) (omega (arith, c .before .before .if2 .left))) (λ z. c .if3 .taken (z ∙ sym (size-is p)))
 
 mul-ends : tie.Need-mul-ends
 mul-ends c = search needs
@@ -107,7 +107,7 @@ returns-4 c =
     let p = g .before .before .before .before .before in
     let I = instanceOf (s p) in
     ap (λ (l : List ℕ). written l 0) (c .before .before .forward .ensures ∙ ap bytes (sym (forward-is I (g .if4 .taken))))
-    ∙ swept (s p) (direction p) (out p) (unrefused p) (known-yes (direction p) (g .before .before .before .before .if2 .left)) (g .before .before .if3 .left ∙ size-is p)
+    ∙ swept (s p) (direction p) (out p) (unrefused p) (known-yes (direction p) (omega (arith, g .before .before .before .before .if2 .left))) (g .before .before .if3 .left ∙ size-is p)
 
 backward-requires : tie.Need-backward-requires
 backward-requires c κs =
@@ -125,7 +125,7 @@ returns-5 c =
     let p = g .before .before .before .before .before in
     let I = instanceOf (s p) in
     ap (λ (l : List ℕ). written l 0) (c .before .before .backward .ensures ∙ ap bytes (sym (backward-is I (g .if4 .left))))
-    ∙ swept (s p) (direction p) (out p) (unrefused p) (known-yes (direction p) (g .before .before .before .before .if2 .left)) (g .before .before .if3 .left ∙ size-is p)
+    ∙ swept (s p) (direction p) (out p) (unrefused p) (known-yes (direction p) (omega (arith, g .before .before .before .before .if2 .left))) (g .before .before .if3 .left ∙ size-is p)
 
 pub write-sweep-spec : {M : Type 1} → statement M
 write-sweep-spec =
