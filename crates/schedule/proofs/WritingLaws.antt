@@ -124,9 +124,12 @@ pub each-end : (f : ℕ → List Entry) {n i : ℕ} → n ≤ i → each f (onwa
 unfolding each
 each-end f h = ap (each f) (onward-end h)
 
-pub each-falling : (f : ℕ → List Entry) {i : ℕ} → 0 < i → each f (falling i) ≡ f (i - 1) ++ each f (falling (i - 1))
+pub each-falling : (f : ℕ → List Entry) {i j : ℕ} → i ≡ suc j → each f (falling i) ≡ f j ++ each f (falling j)
 unfolding each falling
-each-falling f {i} h = let e : i ≡ suc (i - 1) = omega arith in ap (λ (k : ℕ). each f (falling k)) e
+each-falling f e = ap (λ (k : ℕ). each f (falling k)) e
+
+pub falling-none : (f : ℕ → List Entry) (n : ℕ) → each f (falling n) ≡ each f (falling (n - 0))
+falling-none f n = let e : n ≡ n - 0 = omega arith in ap (λ (k : ℕ). each f (falling k)) e
 
 -- one that passes a test, and one that does not
 pub select-hit : (t : ℕ → Bool) {n i : ℕ} → i < n → t i ≡ true → select t (onward n i) ≡ i ∷ select t (onward n (i + 1))
@@ -207,11 +210,11 @@ module _ (f : ℕ → List Entry) {out₀ : List ℕ} {at₀ : ℕ} {whole : Lis
   pub rising-end : {n i : ℕ} → Writing out₀ at₀ whole out at (each f (onward n i)) → n ≤ i → Wrote out₀ at₀ whole out at
   rising-end w h = writing-as (each-end f h) w
 
-  pub falling-room : {i : ℕ} → Writing out₀ at₀ whole out at (each f (falling i)) → 0 < i → Room out₀ at₀ whole → Room out at (f (i - 1))
-  falling-room {i} w h r = writing-room (f (i - 1)) (each f (falling (i - 1))) (writing-as (each-falling f h) w) r
+  pub falling-room : {i j : ℕ} → Writing out₀ at₀ whole out at (each f (falling i)) → i ≡ suc j → Room out₀ at₀ whole → Room out at (f j)
+  falling-room {i} {j} w e r = writing-room (f j) (each f (falling j)) (writing-as (each-falling f e) w) r
 
-  pub falling-more : {i : ℕ} {out′ : List ℕ} {at′ : ℕ} → Writing out₀ at₀ whole out at (each f (falling i)) → 0 < i → Wrote out at (f (i - 1)) out′ at′ → Writing out₀ at₀ whole out′ at′ (each f (falling (i - 1)))
-  falling-more {i} w h v = writing-more (f (i - 1)) (each f (falling (i - 1))) (writing-as (each-falling f h) w) v
+  pub falling-more : {i j : ℕ} {out′ : List ℕ} {at′ : ℕ} → Writing out₀ at₀ whole out at (each f (falling i)) → i ≡ suc j → Wrote out at (f j) out′ at′ → Writing out₀ at₀ whole out′ at′ (each f (falling j))
+  falling-more {i} {j} w e v = writing-more (f j) (each f (falling j)) (writing-as (each-falling f e) w) v
 
   pub falling-end : {i : ℕ} → Writing out₀ at₀ whole out at (each f (falling i)) → i ≤ 0 → Wrote out₀ at₀ whole out at
   unfolding each falling

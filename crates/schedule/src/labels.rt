@@ -92,10 +92,11 @@ pub(crate) fn from_labels(
     ensures { λ r. ⌜ Wrote (now (out .entry)) at (each (labelAt (instanceOf (now (sheet .entry)))) (falling labels)) (now (out .exit)) r ⌝ }
 {
     let mut next = at;
-    let mut l = labels;
-    while 0 < l {
-        l -= 1;
-        next = from_label(sheet, n, ends, edges, starts, l, out, next);
+    let mut passed = 0;
+    while passed < labels {
+        passed += 1;
+        let label = labels - passed;
+        next = from_label(sheet, n, ends, edges, starts, label, out, next);
     }
     next
 }
