@@ -30,7 +30,7 @@ struct Ran {
 }
 
 // A length, or all there is room for. It is the length: a longer one is never lent, as its case is skipped.
-fn at_most(length: usize, room: usize) -> usize
+pub fn at_most(length: usize, room: usize) -> usize
     ensures { λ r. ⌜ r ≤ room ⌝ }
 {
     if room < length { room } else { length }

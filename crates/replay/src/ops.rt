@@ -2,7 +2,7 @@
 // file, of which `at` is the place of the call's parameters.
 //
 // The state hash is compared after the calls that have buffers, and after each resize and poke. A show or a read has
-// none to change: there it is not compared.
+// none to change, and a sweep its own: there it is not compared.
 use crate::calls;
 use crate::calls::Outcome;
 use crate::calls::state_agrees;
@@ -42,6 +42,7 @@ pub fn judge(file: &[u8], op: u8, at: usize, sheet: &[u8], state: State) -> Outc
     match op {
         SHOW => unchanged(state, judged(show_agrees(file, at, sheet))),
         READ => unchanged(state, judged(read_agrees(file, at, sheet))),
+        SWEEP => unchanged(state, sweep_judged(file, at, sheet)),
         RESIZE => changed(file, after(file, at, 5), state::resized(file, at, state)),
         POKE => changed(file, after(file, at, 13), state::poked(file, at, state)),
         _ => {
@@ -105,6 +106,38 @@ fn show_agrees(file: &[u8], at: usize, sheet: &[u8]) -> bool {
         && number_is(file, at, 1, refusal)
         && number_is(file, at, 9, prices.len() as u64)
         && number_is(file, at, 17, hash::of_bytes(prices))
+}
+
+// The room for a sweep.
+const SWEEP_ROOM: usize = 512;
+
+// Writes a sweep into the first bytes of a buffer, as many as are lent.
+fn sweep_lent(sheet: &[u8], direction: u8, out: &mut [u8], length: usize) -> u8 {
+    let length = calls::at_most(length, out.len());
+    schedule::write_sweep(sheet, direction, &mut out[..length])
+}
+
+// Sweep: the refusal, and the lent bytes, which were A5 before, as the output.
+fn sweep_agrees(file: &[u8], at: usize, sheet: &[u8], direction: u8, length: usize) -> bool {
+    let mut out = [0xA5u8; 512];
+    let refusal = sweep_lent(sheet, direction, &mut out, length) as u64;
+    let lent = calls::at_most(length, SWEEP_ROOM);
+    byte_at(file, at) == 1
+        && number_is(file, at, 1, refusal)
+        && number_is(file, at, 9, hash::of_bytes(&out[..lent]))
+}
+
+// A direction that is no byte, or a buffer longer than there is room for, is skipped.
+fn sweep_judged(file: &[u8], at: usize, sheet: &[u8]) -> Verdict {
+    let direction = word_at(file, at);
+    let length = word_at(file, after(file, at, 4)) as usize;
+    if 255 < direction {
+        return Verdict::Skipped;
+    }
+    if SWEEP_ROOM < length {
+        return Verdict::Skipped;
+    }
+    judged(sweep_agrees(file, after(file, at, 8), sheet, byte_at(file, at), length))
 }
 
 // Read: the refusal and the counts, and where the nodes' cells and the edges' tables begin as the output.
