@@ -184,13 +184,11 @@ pub(crate) fn prices_ok(sheet: &[u8], at: usize, count: usize) -> bool
     requires { ⌜ at + 4 * count ≤ length (now sheet) ⌝ }
     ensures { λ r. ⌜ r ≡ below count (priceOk (now (sheet .entry)) at) ⌝ }
 {
+    let mut ok = true;
     let mut i = 0;
     while i < count {
-        if price_ok(word(sheet, at + 4 * i)) {
-            i += 1;
-        } else {
-            return false;
-        }
+        ok = ok & price_ok(word(sheet, at + 4 * i));
+        i += 1;
     }
-    true
+    ok
 }
