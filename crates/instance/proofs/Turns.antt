@@ -4,20 +4,21 @@ use mathlib.Core.Path.{_≡_, sym, ap, ap₂, _∙_}
 use mathlib.Core.Bool.{Bool, true, false, _&&_, _||_}
 use mathlib.Core.List.{List}
 use Prim.Native.Nat.{ℕ, _+_, _-_, _*_, _≤_, _<_}
-use native.Mathlib.Nat.{add-assoc, mul-le-mul}
+use native.Mathlib.Nat.{mul-le-mul}
 use native.Mathlib.Omega.{arith}
 use borrow.Author.Tests.{le-leb, lt-leb, lt-ltb, le-ltb, ltb-true, ltb-false, leb-true, eqb-true, eqb-false}
 use lib.Dec.{leb, ltb, eqb}
-use lib.ListN.{length, set, replicate}
-use Rattle.integers.specs.Places.{offset}
-use Rattle.integers.specs.Checks.{below, padded}
-use Rattle.integers.proofs.Places.{by-test, if-true, if-false, and-true, and-both}
-use Rattle.integers.proofs.Totals.{offset-more, offset-none, offset-le}
+use lib.ListN.{length, getD, set, replicate}
+use Rattle.integers.specs.Places.{tabulate, offset}
+use Rattle.integers.specs.Checks.{below, padded, oneOf}
+use Rattle.integers.proofs.Places.{by-test, if-true, if-false, and-true, and-both, getD-tabulate}
+use Rattle.integers.proofs.Marks.{below-parts, part-begins, marks-none, marks-more}
+use Rattle.integers.proofs.Totals.{offset-more, offset-none}
 use Rattle.integers.proofs.Checks.{Tested, tested-none, tested-more, tested-all, below-at, below-fails, below-ext, padded-more, padded-none, least-next, least-next-zero, least-next-more, rising-at}
 use Rattle.instance.specs.Bytes.{byte}
-use Rattle.instance.specs.Instance.{Instance, first, tableSize, table}
+use Rattle.instance.specs.Instance.{Instance, first, nodeCells, tableSize, table}
 use Rattle.instance.specs.Sheet.{instanceOf, labelsAt, rises, degreeOk, degreesOk, endOk, endsOk, labelOk, labelsOk}
-use Rattle.instance.specs.Passes.{badDegrees, degreesRead, badEnds, endsRead, positionOk, rowOk, DegreesAsked, EndsAsked, LabelsAsked}
+use Rattle.instance.specs.Passes.{badDegrees, degreesRead, badEnds, endsRead, firstPlaces, placeOk, DegreesAsked, EndsAsked, LabelsAsked}
 
 -- ---- tests joined by "and"
 
@@ -26,18 +27,6 @@ left-false b e = rw e
 
 right-false : {a b : Bool} → a ≡ true → b ≡ false → (a && b) ≡ false
 right-false p q = rw (p, q)
-
--- ---- the labels of one node, from `at` on
-
-module _ (s : List ℕ) (at labels k next : ℕ) (e : next ≡ least-next (λ j. byte s (at + j)) k) where
-  pub position-past : labels ≤ byte s (at + k) → positionOk s at labels k ≡ false
-  position-past h = left-false _ (le-ltb (byte s (at + k)) labels h)
-
-  pub position-falls : byte s (at + k) < labels → byte s (at + k) < next → positionOk s at labels k ≡ false
-  position-falls g h = right-false (lt-ltb (byte s (at + k)) labels g) (rising-at (λ j. byte s (at + j)) k ∙ rw (← e) (lt-leb next (byte s (at + k)) h))
-
-  pub position-good : byte s (at + k) < labels → next ≤ byte s (at + k) → positionOk s at labels k ≡ true
-  position-good g h = and-both (lt-ltb (byte s (at + k)) labels g) (rising-at (λ j. byte s (at + j)) k ∙ rw (← e) (le-leb next (byte s (at + k)) h))
 
 -- ---- the degrees
 
@@ -199,52 +188,81 @@ module _ {s : List ℕ} {n at edges : ℕ} (asked : EndsAsked s n at edges) (byt
         (λ j. record { ok = true; total = (t .sum ∙ ap (table (I s)) q) j; tables = (t .filled ∙ ap (λ (k : ℕ). padded 256 k (table (I s))) q) j })
         ∙ sym (if-true _ badEnds (ap (λ (k : ℕ). below k (endOk s)) (sym (asked .all)) ∙ tested-all (t .tested) h))
 
--- ---- the labels, node by node
+-- ---- where the nodes' labels begin
 
 module _ (s : List ℕ) where
-  abbrev labelRow : ℕ → Bool
-  labelRow u = below (I s .degree u) (labelOk s u)
-
   -- after u nodes
-  pub record LabelsTurn (n at u : ℕ) : Type 0 where
-    pub tested : Tested labelRow n u
-    pub place : at ≡ labelsAt s + first (I s) u
+  pub record FirstsTurn (n : ℕ) (firsts : List Bool) (at u : ℕ) : Type 0 where
+    pub within : u ≤ n
+    pub place : at ≡ first (I s) u
+    pub small : at ≤ 16 * u
+    pub filled : firsts ≡ tabulate 1_024 (oneOf u (first (I s)))
 
-module _ {s : List ℕ} {n labels : ℕ} (asked : LabelsAsked s n labels) where
-  -- a node's row, from where the code stands
-  row-is : (u at : ℕ) → at ≡ labelsAt s + first (I s) u → rowOk s at (byte s u) labels ≡ labelRow s u
-  unfolding rowOk instanceOf
-  row-is u at e =
-      let p : (j : ℕ) → byte s (at + j) ≡ I s .label (first (I s) u + j) = (λ j. ap (byte s) (ap (λ (z : ℕ). z + j) e ∙ add-assoc (labelsAt s) (first (I s) u) j)) in
-      below-ext (byte s u) (positionOk s at labels) (labelOk s u) (λ k h. rw (p k, p (k - 1), asked .all))
-
-  pub labels-none : LabelsTurn s n n 0
-  unfolding first instanceOf
-  labels-none = record {
-    tested = tested-none (labelRow s) n;
-    place = omega (arith, asked .degrees .nodes, offset-none (byte s));
+  pub firsts-none : (n : ℕ) → FirstsTurn n (replicate 1_024 false) 0 0
+  unfolding first
+  firsts-none n = record {
+    within = omega arith;
+    place = sym (offset-none (I s .degree));
+    small = omega arith;
+    filled = marks-none 1_024 (first (I s));
   }
 
-  module _ {at u : ℕ} (t : LabelsTurn s n at u) where
-    -- the row lies in the sheet
-    pub labels-room : u < n → at + byte s u ≤ length s
-    unfolding first instanceOf
-    labels-room h =
-        let m = asked .degrees .nodes in
-        let l = offset-le (byte s) u (I s .nodeCount) (omega arith) in
-        omega (arith, t .place, asked .room)
+module _ {s : List ℕ} {n : ℕ} (asked : DegreesAsked s n) (small : degreesOk s ≡ true) {firsts : List Bool} {at u : ℕ} (t : FirstsTurn s n firsts at u) where
+  pub firsts-more : u < n → FirstsTurn s n (set firsts at true) (at + byte s u) (u + 1)
+  unfolding first instanceOf
+  firsts-more h = record {
+    within = omega arith;
+    place = rw (t .place) (sym (offset-more (byte s) u));
+    small = omega (arith, t .small, degree-bounds s n (asked .nodes) small u h .1);
+    filled = rw (t .filled, t .place) (marks-more 1_024 u (offset (byte s)) (omega (arith, t .place, t .small, asked .few)));
+  }
 
-    pub labels-bad : u < n → rowOk s at (byte s u) labels ≡ false → false ≡ labelsOk s
-    unfolding labelsOk
-    labels-bad h e = sym (ap (λ (k : ℕ). below k (labelRow s)) (sym (asked .degrees .nodes)) ∙ below-fails n (labelRow s) u h (sym (row-is u at (t .place)) ∙ e))
+  pub firsts-done : n ≤ u → firsts ≡ firstPlaces s
+  unfolding firstPlaces
+  firsts-done h =
+      let e : u ≡ I s .nodeCount = omega (arith, t .within, asked .nodes) in
+      t .filled ∙ ap (λ (k : ℕ). tabulate 1_024 (oneOf k (first (I s)))) e
 
-    pub labels-more : u < n → rowOk s at (byte s u) labels ≡ true → LabelsTurn s n (at + byte s u) (u + 1)
-    unfolding first instanceOf
-    labels-more h e = record {
-      tested = tested-more (t .tested) h (sym (row-is u at (t .place)) ∙ e);
-      place = omega (arith, t .place, offset-more (byte s) u);
-    }
+-- ---- the labels
 
-    pub labels-done : n ≤ u → true ≡ labelsOk s
-    unfolding labelsOk
-    labels-done h = sym (ap (λ (k : ℕ). below k (labelRow s)) (sym (asked .degrees .nodes)) ∙ tested-all (t .tested) h)
+module _ (s : List ℕ) where
+  -- the label k of the node u, by its place
+  place-is : (u k : ℕ) → u < I s .nodeCount → k < I s .degree u → placeOk s (first (I s) u + k) ≡ labelOk s u k
+  unfolding first instanceOf
+  place-is u k h l =
+      let i = offset (byte s) u + k in
+      ap (λ (b : Bool). ltb (byte s (labelsAt s + i)) (I s .labelCount) && (b || ltb (byte s (labelsAt s + i - 1)) (byte s (labelsAt s + i))))
+      (part-begins (byte s) (I s .nodeCount) u k h l)
+      ∙ by-test (eqb k 0) (λ e. rw e)
+      (λ e. let d : k ≡ 0 → ⊥ = eqb-false k 0 e in
+      let q : labelsAt s + i - 1 ≡ labelsAt s + (offset (byte s) u + (k - 1)) = omega arith in rw q)
+
+  pub labels-by : labelsOk s ≡ below (nodeCells (I s)) (placeOk s)
+  unfolding labelsOk first
+  labels-by =
+      sym (below-parts (I s .degree) (I s .nodeCount) (placeOk s)
+      ∙ below-ext (I s .nodeCount) (λ u. below (I s .degree u) (λ k. placeOk s (first (I s) u + k))) (λ u. below (I s .degree u) (labelOk s u))
+      (λ u h. below-ext (I s .degree u) (λ k. placeOk s (first (I s) u + k)) (labelOk s u) (λ k l. place-is u k h l)))
+
+module _ {s : List ℕ} {n positions labels : ℕ} (asked : LabelsAsked s n positions labels) where
+  -- there is a byte before the first label, a degree
+  pub labels-after : {i : ℕ} → i < positions → 0 < n
+  unfolding first
+  labels-after h =
+      by-test (eqb n 0) (λ e. let z : n ≡ 0 = eqb-true n 0 e in
+      let q : nodeCells (I s) ≡ 0 = ap (first (I s)) (sym (asked .degrees .nodes) ∙ z) ∙ offset-none (I s .degree) in omega (arith, asked .places))
+      (λ e. let d : n ≡ 0 → ⊥ = eqb-false n 0 e in omega arith)
+
+  pub labels-room : n + positions ≤ length s
+  unfolding first instanceOf
+  labels-room = omega (arith, asked .room, asked .places, asked .degrees .nodes)
+
+  -- the test of one place, as the code has it
+  pub label-by : {firsts : List Bool} {i label before : ℕ} → firsts ≡ firstPlaces s → i < positions → label ≡ byte s (n + i) → before ≡ byte s (n + i - 1)
+      → (ltb label labels && (getD firsts i false || ltb before label)) ≡ placeOk s i
+  unfolding firstPlaces instanceOf
+  label-by {i = i} e h el eb =
+      rw (el, eb, asked .degrees .nodes, asked .all, e, getD-tabulate 1_024 (oneOf (I s .nodeCount) (first (I s))) i false (omega (arith, asked .few)))
+
+  pub labels-done : {ok : Bool} → ok ≡ below positions (placeOk s) → ok ≡ labelsOk s
+  labels-done e = e ∙ ap (λ (k : ℕ). below k (placeOk s)) (asked .places) ∙ sym (labels-by s)
