@@ -1,0 +1,4 @@
+-- Laws of what is printed.
+pub mod DecimalLaws
+pub mod PutLaws
+pub mod ReportLaws
