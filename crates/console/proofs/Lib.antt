@@ -2,3 +2,4 @@
 pub mod DecimalLaws
 pub mod PutLaws
 pub mod ReportLaws
+pub mod ProgramLaws

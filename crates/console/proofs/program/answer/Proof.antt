@@ -1,56 +1,61 @@
+-- `answer` meets its contract: the parts of the arrays have the sheet's own lengths.
+-- Assumes nothing.
+use mathlib.Core.Path.{_≡_, sym}
+use Prim.Native.Nat.{ℕ}
+use lib.ListN.{take, replicate}
+use lib.IntN.{pos}
+use Rattle.messages.specs.World.{lent}
+use Rattle.console.proofs.ProgramLaws.{Few, few, part-length, parts-sized}
 use borrow.Author.Needs.{needs}
 use Rattle.console.proofs.program.answer.Statement.{statement}
 use Rattle.console.proofs.program.answer.Tie as tie
-use Rattle.console.proofs.program.answer.Reads as reads
-use Rattle.console.proofs.program.answer.Lts as lts
 use Rattle.console.proofs.program.answer_in.Reads as answer-in-reads
 use Rattle.instance.proofs.read.Reads as read-reads
 
--- src/program.rt:51:9
+-- what reading answered is small
+small : (p : tie.After-read) → Few (p .read .result)
+small p = few (p .before .before .before .before .args .sheet .now) (p .read .ensures)
+
+
 read-requires : tie.Need-read-requires
 read-requires c κs = search needs
 
--- src/program.rt:62:9
 array-borrow-prefix-nodes : tie.Need-array-borrow-prefix-nodes
-array-borrow-prefix-nodes c = ?
+array-borrow-prefix-nodes c = small c .positions
 
--- src/program.rt:62:9
 slice-aggregate-answer-in : tie.Need-slice-aggregate-answer-in
-slice-aggregate-answer-in c = ?
+slice-aggregate-answer-in c = let p = c .before in sym (part-length 1_024 (p .read .result .positions) (pos 0) (small p .positions))
 
--- src/program.rt:63:9
 array-borrow-prefix-labels : tie.Need-array-borrow-prefix-labels
-array-borrow-prefix-labels c = ?
+array-borrow-prefix-labels c = small (c .before) .positions
 
--- src/program.rt:63:9
 slice-aggregate-answer-in-2 : tie.Need-slice-aggregate-answer-in-2
-slice-aggregate-answer-in-2 c = ?
+slice-aggregate-answer-in-2 c = let p = c .before .before in sym (part-length 1_024 (p .read .result .positions) (pos 0) (small p .positions))
 
--- src/program.rt:64:9
 array-borrow-prefix-edges : tie.Need-array-borrow-prefix-edges
-array-borrow-prefix-edges c = ?
+array-borrow-prefix-edges c = small (c .before .before) .cells
 
--- src/program.rt:64:9
 slice-aggregate-answer-in-3 : tie.Need-slice-aggregate-answer-in-3
-slice-aggregate-answer-in-3 c = ?
+slice-aggregate-answer-in-3 c = let p = c .before .before .before in sym (part-length 4_096 (p .read .result .cells) (pos 0) (small p .cells))
 
--- src/program.rt:65:9
 array-borrow-prefix-incumbent : tie.Need-array-borrow-prefix-incumbent
-array-borrow-prefix-incumbent c = ?
+array-borrow-prefix-incumbent c = small (c .before .before .before) .nodes
 
--- src/program.rt:65:9
 slice-aggregate-answer-in-4 : tie.Need-slice-aggregate-answer-in-4
-slice-aggregate-answer-in-4 c = ?
+slice-aggregate-answer-in-4 c = let p = c .before .before .before .before in sym (part-length 64 (p .read .result .nodes) 0 (small p .nodes))
 
--- src/program.rt:59:5
 answer-in-requires : tie.Need-answer-in-requires
-answer-in-requires c κs = ?
+answer-in-requires c κs =
+    let p = c .before .before .before .before .before in
+    let r = p .read .result in
+    let nodes = part-length 1_024 (r .positions) (pos 0) (small p .positions) in
+    parts-sized (p .before .before .before .before .args .sheet .now)
+    (lent (take (r .positions) (replicate 1_024 (pos 0))) (take (r .positions) (replicate 1_024 (pos 0))) (take (r .cells) (replicate 4_096 (pos 0))) (take (r .nodes) (replicate 64 0)))
+    (p .read .ensures) nodes nodes (part-length 4_096 (r .cells) (pos 0) (small p .cells)) (part-length 64 (r .nodes) 0 (small p .nodes))
 
--- src/program.rt:48:1
 same-length : tie.Need-same-length
 same-length c = search needs
 
--- src/program.rt:48:1
 returns : tie.Need-returns
 returns c = search needs
 
