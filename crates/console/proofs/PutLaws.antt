@@ -35,9 +35,9 @@ put-then {at} {next} {last} {x} {y} {a} {b} {c} h p q =
     let size : length head ≡ next = length-append (take at a) x ∙ ap (λ (n : ℕ). n + length x) (length-take-le at a (omega arith)) ∙ sym (p .after) in
     let front : take next b ≡ head = ap (take next) (p .bytes) ∙ take-at head (drop (at + length x) a) next size in
     let back : drop (next + length y) b ≡ drop (at + length (x ++ y)) a =
-        ap (λ (n : ℕ). drop (n + length y) b) (sym size) ∙ ap (drop (length head + length y)) (p .bytes)
-        ∙ drop-append-add head (drop (at + length x) a) (length y) ∙ drop-drop (length y) (at + length x) a
-        ∙ ap (λ (n : ℕ). drop n a) (let e : at + length x + length y ≡ at + length (x ++ y) = rw length-append (omega arith) in e) in
+    ap (λ (n : ℕ). drop (n + length y) b) (sym size) ∙ ap (drop (length head + length y)) (p .bytes)
+    ∙ drop-append-add head (drop (at + length x) a) (length y) ∙ drop-drop (length y) (at + length x) a
+    ∙ ap (λ (n : ℕ). drop n a) (let e : at + length x + length y ≡ at + length (x ++ y) = rw length-append (omega arith) in e) in
     record {
       bytes = q .bytes ∙ ap (λ (l : List ℕ). l ++ y ++ drop (next + length y) b) front ∙ ap (λ (l : List ℕ). head ++ y ++ l) back ∙ ap (λ (l : List ℕ). l ++ drop (at + length (x ++ y)) a) (append-assoc (take at a) x y);
       after = rw length-append (omega (arith, p .after, q .after));

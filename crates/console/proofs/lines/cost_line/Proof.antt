@@ -10,7 +10,6 @@ use Rattle.console.proofs.lines.cost_line.Tie as tie
 use Rattle.console.proofs.text.put.Reads as put-reads
 use Rattle.console.proofs.text.put_signed.Reads as put-signed-reads
 
-
 put-requires : tie.Need-put-requires
 put-requires c κs = search needs
 

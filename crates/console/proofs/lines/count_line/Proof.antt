@@ -9,7 +9,6 @@ use Rattle.console.proofs.lines.count_line.Tie as tie
 use Rattle.console.proofs.text.put.Reads as put-reads
 use Rattle.console.proofs.text.put_decimal.Reads as put-decimal-reads
 
-
 put-requires : tie.Need-put-requires
 put-requires c κs = search needs
 

@@ -6,7 +6,6 @@ use Rattle.console.proofs.lines.refused_line.Statement.{statement}
 use Rattle.console.proofs.lines.refused_line.Tie as tie
 use Rattle.console.proofs.lines.count_line.Reads as count-line-reads
 
-
 slice-aggregate-count-line : tie.Need-slice-aggregate-count-line
 slice-aggregate-count-line c = search needs
 

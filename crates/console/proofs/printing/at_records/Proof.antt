@@ -5,7 +5,6 @@ use Rattle.console.specs.Lines.{atRecords}
 use Rattle.console.proofs.printing.at_records.Statement.{statement}
 use Rattle.console.proofs.printing.at_records.Tie as tie
 
-
 returns : tie.Need-returns
 unfolding atRecords
 returns c = rw (eq-eqb (c .before .args .refusal) 0 (c .if1 .taken))

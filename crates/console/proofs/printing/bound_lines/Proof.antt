@@ -13,7 +13,6 @@ use Rattle.console.proofs.printing.bound_lines.Tie as tie
 use Rattle.console.proofs.lines.cost_line.Reads as cost-line-reads
 use Rattle.console.proofs.text.put.Reads as put-reads
 
-
 slice-aggregate-cost-line : tie.Need-slice-aggregate-cost-line
 slice-aggregate-cost-line c = search needs
 
@@ -41,10 +40,9 @@ returns c =
     let s = c .before .before .before .before .before .before .before .before .before .before .before .before .before .before .before .before in
     let first = c .before .before .before .before .before .before .before .before .before .before .before .before .cost-line in
     let second = c .before .before .before .before .before .before .before .put in
-    let third = c .before .before .put2 in
-    (
+    let third = c .before .before .put2 in (
       put-then (omega (arith, first .ensures .1, second .ensures .after, s .pre))
-      (put-then (omega (arith, first .ensures .1, s .pre)) (put-as (ap (λ (z : ℤ). line boundName (signed z)) (toZ-ofZ (s .fits .bound))) (first .ensures .0)) (second .ensures)) (third .ensures),
+          (put-then (omega (arith, first .ensures .1, s .pre)) (put-as (ap (λ (z : ℤ). line boundName (signed z)) (toZ-ofZ (s .fits .bound))) (first .ensures .0)) (second .ensures)) (third .ensures),
       omega (arith, first .ensures .1, second .ensures .after, third .ensures .after),
     )
 

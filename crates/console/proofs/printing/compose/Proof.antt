@@ -15,7 +15,6 @@ use Rattle.console.proofs.lines.refused_line.Reads as refused-line-read
 use Rattle.console.proofs.printing.at_records.Reads as at-records-reads
 use Rattle.console.proofs.printing.report_text.Reads as report-text-reads
 
-
 returns : tie.Need-returns
 returns c = let s = c .before .before in out-short (textOf (s .args .answer .done) (s .args .answer .stuck) (s .args .answer .refusal) (reportedAs (s .args .report))) (c .if1 .taken)
 

@@ -8,7 +8,6 @@ use Rattle.console.proofs.printing.count_lines.Statement.{statement}
 use Rattle.console.proofs.printing.count_lines.Tie as tie
 use Rattle.console.proofs.lines.count_line.Reads as count-line-reads
 
-
 slice-aggregate-count-line : tie.Need-slice-aggregate-count-line
 slice-aggregate-count-line c = search needs
 

@@ -12,7 +12,6 @@ use Rattle.console.proofs.printing.kept_lines.Statement.{statement}
 use Rattle.console.proofs.printing.kept_lines.Tie as tie
 use Rattle.console.proofs.lines.cost_line.Reads as cost-line-reads
 
-
 slice-aggregate-cost-line : tie.Need-slice-aggregate-cost-line
 slice-aggregate-cost-line c = search needs
 
@@ -40,12 +39,11 @@ returns c =
     let s = c .before .before .before .before .before .before .before .before .before .before .before .before .before .before .before .before in
     let first = c .before .before .before .before .before .before .before .before .before .before .before .before .cost-line in
     let second = c .before .before .before .before .before .before .before .cost-line2 in
-    let third = c .before .before .cost-line3 in
-    (
+    let third = c .before .before .cost-line3 in (
       put-then (omega (arith, first .ensures .1, second .ensures .1, s .pre))
-      (put-then (omega (arith, first .ensures .1, s .pre)) (put-as (ap (λ (z : ℤ). line boundName (signed z)) (toZ-ofZ (s .fits .bound))) (first .ensures .0))
-      (put-as (ap (λ (z : ℤ). line cost (signed z)) (toZ-ofZ (s .fits .cost))) (second .ensures .0)))
-      (put-as (ap (λ (z : ℤ). line gap (signed z)) (toZ-ofZ (s .fits .gap))) (third .ensures .0)),
+          (put-then (omega (arith, first .ensures .1, s .pre)) (put-as (ap (λ (z : ℤ). line boundName (signed z)) (toZ-ofZ (s .fits .bound))) (first .ensures .0))
+          (put-as (ap (λ (z : ℤ). line cost (signed z)) (toZ-ofZ (s .fits .cost))) (second .ensures .0)))
+          (put-as (ap (λ (z : ℤ). line gap (signed z)) (toZ-ofZ (s .fits .gap))) (third .ensures .0)),
       omega (arith, first .ensures .1, second .ensures .1, third .ensures .1),
     )
 

@@ -7,7 +7,6 @@ use Rattle.console.proofs.printing.refuse.Statement.{statement}
 use Rattle.console.proofs.printing.refuse.Tie as tie
 use Rattle.console.proofs.lines.refused_line.Reads as refused-line-reads
 
-
 returns : tie.Need-returns
 returns c = out-short (refusedLine (c .before .before .args .refusal)) (c .if1 .taken)
 

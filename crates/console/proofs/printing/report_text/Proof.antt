@@ -16,7 +16,6 @@ use Rattle.console.proofs.printing.kept_lines.Reads as kept-lines-reads
 use Rattle.console.proofs.printing.stop_line.Reads as stop-line-reads
 use Rattle.console.proofs.printing.unkept_text.Reads as unkept-text-reads
 
-
 enum-known-report : tie.Need-enum-known-report
 enum-known-report c = search needs
 

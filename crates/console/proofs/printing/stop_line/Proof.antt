@@ -8,7 +8,6 @@ use Rattle.console.proofs.printing.stop_line.Statement.{statement}
 use Rattle.console.proofs.printing.stop_line.Tie as tie
 use Rattle.console.proofs.lines.refused_line.Reads as refused-line-reads
 
-
 returns : tie.Need-returns
 unfolding stopLine
 returns c = let s = c .before .before in rw (eq-eqb (s .args .refusal) 0 (c .if1 .taken)) (put-none (s .args .at) (s .args .out .now))

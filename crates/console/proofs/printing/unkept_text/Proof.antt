@@ -17,7 +17,6 @@ use Rattle.console.proofs.printing.count_lines.Reads as count-lines-rea
 use Rattle.console.proofs.printing.refusal_of.Reads as refusal-of-reads
 use Rattle.console.proofs.printing.stop_line.Reads as stop-line-reads
 
-
 enum-known-report : tie.Need-enum-known-report
 enum-known-report c = search needs
 

@@ -16,7 +16,6 @@ use Rattle.instance.proofs.read.Reads as read-reads
 small : (p : tie.After-read) → Few (p .read .result)
 small p = few (p .before .before .before .before .args .sheet .now) (p .read .ensures)
 
-
 read-requires : tie.Need-read-requires
 read-requires c κs = search needs
 

@@ -41,7 +41,6 @@ module _ (p : tie.After-open) where
       → lent (p .«open» .last .1 .0) (p .«open» .last .1 .1 .0) (p .«open» .last .1 .1 .1 .0) (p .«open» .last .1 .1 .1 .1 .0) ≡ opened (instanceOf sheet)
   left e = ap (λ (o : Opened). o .buffers) (p .«open» .ensures) ∙ open-leaves sheet before (start .pre) e
 
-
 open-requires : tie.Need-open-requires
 open-requires c κs = search needs
 

@@ -46,7 +46,6 @@ module _ (c : tie.After-slice-known3) where
   text2 : decimal (c .before .before .before .magnitude2 .result) ≡ signed (s2 .args .z)
   text2 = ap decimal (c .before .before .before .magnitude2 .ensures ∙ ap natAbs (toZ-ofZ (s2 .fits .z))) ∙ sym (signed-above (s2 .args .z) above)
 
-
 slice-write-out : tie.Need-slice-write-out
 slice-write-out c = search needs
 
