@@ -3,3 +3,4 @@ pub mod DecimalLaws
 pub mod PutLaws
 pub mod ReportLaws
 pub mod ProgramLaws
+pub mod Printed

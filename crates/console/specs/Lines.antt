@@ -6,47 +6,26 @@ use lib.Dec.{eqb}
 use lib.IntN.{ℤ}
 use Rattle.rules.specs.Calls.{Report, refused, bound, kept}
 use Rattle.console.specs.Decimal.{decimal, signed}
+use Rattle.console.specs.Ascii.{ascii}
 
 -- a name and a value, ended by a newline
 unfoldable pub line : List ℕ → List ℕ → List ℕ
 line name value = name ++ value ++ (10 ∷ [])
 
--- "done ", "stuck ", "bound ", "cost ", "gap ", "refused ", "none"
-abbrev pub done : List ℕ
-done = 100 ∷ 111 ∷ 110 ∷ 101 ∷ 32 ∷ []
-
-abbrev pub stuck : List ℕ
-stuck = 115 ∷ 116 ∷ 117 ∷ 99 ∷ 107 ∷ 32 ∷ []
-
-abbrev pub boundName : List ℕ
-boundName = 98 ∷ 111 ∷ 117 ∷ 110 ∷ 100 ∷ 32 ∷ []
-
-abbrev pub cost : List ℕ
-cost = 99 ∷ 111 ∷ 115 ∷ 116 ∷ 32 ∷ []
-
-abbrev pub gap : List ℕ
-gap = 103 ∷ 97 ∷ 112 ∷ 32 ∷ []
-
-abbrev pub refusedName : List ℕ
-refusedName = 114 ∷ 101 ∷ 102 ∷ 117 ∷ 115 ∷ 101 ∷ 100 ∷ 32 ∷ []
-
-abbrev pub none : List ℕ
-none = 110 ∷ 111 ∷ 110 ∷ 101 ∷ []
-
 unfoldable pub refusedLine : ℕ → List ℕ
-refusedLine r = line refusedName (decimal r)
+refusedLine r = line (ascii "refused ") (decimal r)
 
 -- "records done, roundings stuck"
 unfoldable pub countLines : ℕ → ℕ → List ℕ
-countLines d s = line done (decimal d) ++ line stuck (decimal s)
+countLines d s = line (ascii "done ") (decimal d) ++ line (ascii "stuck ") (decimal s)
 
 -- "bound, kept cost, gap"
 unfoldable pub keptLines : ℤ → ℤ → ℤ → List ℕ
-keptLines z p g = line boundName (signed z) ++ line cost (signed p) ++ line gap (signed g)
+keptLines z p g = line (ascii "bound ") (signed z) ++ line (ascii "cost ") (signed p) ++ line (ascii "gap ") (signed g)
 
 -- "With none kept, `cost none` and `gap none`"
 unfoldable pub boundLines : ℤ → List ℕ
-boundLines z = line boundName (signed z) ++ line cost none ++ line gap none
+boundLines z = line (ascii "bound ") (signed z) ++ ascii "cost none\n" ++ ascii "gap none\n"
 
 -- a run that ended, or stopped at a record (12 or 13)
 unfoldable pub atRecords : ℕ → Bool

@@ -4,8 +4,9 @@ use mathlib.Core.Path.{ap}
 use native.Mathlib.Omega.{arith}
 use lib.IntN.{ℤ}
 use mir.Facts.{toZ-ofZ}
+use Rattle.console.specs.Ascii.{ascii}
 use Rattle.console.specs.Decimal.{signed}
-use Rattle.console.specs.Lines.{line, boundName, boundLines}
+use Rattle.console.specs.Lines.{line, boundLines}
 use Rattle.console.proofs.PutLaws.{put-as, put-then}
 use borrow.Author.Needs.{needs}
 use Rattle.console.proofs.printing.bound_lines.Statement.{statement}
@@ -42,7 +43,7 @@ returns c =
     let second = c .before .before .before .before .before .before .before .put in
     let third = c .before .before .put2 in (
       put-then (omega (arith, first .ensures .1, second .ensures .after, s .pre))
-          (put-then (omega (arith, first .ensures .1, s .pre)) (put-as (ap (λ (z : ℤ). line boundName (signed z)) (toZ-ofZ (s .fits .bound))) (first .ensures .0)) (second .ensures)) (third .ensures),
+          (put-then (omega (arith, first .ensures .1, s .pre)) (put-as (ap (λ (z : ℤ). line (ascii "bound ") (signed z)) (toZ-ofZ (s .fits .bound))) (first .ensures .0)) (second .ensures)) (third .ensures),
       omega (arith, first .ensures .1, second .ensures .after, third .ensures .after),
     )
 

@@ -4,8 +4,9 @@ use mathlib.Core.Path.{ap}
 use native.Mathlib.Omega.{arith}
 use lib.IntN.{ℤ}
 use mir.Facts.{toZ-ofZ}
+use Rattle.console.specs.Ascii.{ascii}
 use Rattle.console.specs.Decimal.{signed}
-use Rattle.console.specs.Lines.{line, boundName, cost, gap, keptLines}
+use Rattle.console.specs.Lines.{line, keptLines}
 use Rattle.console.proofs.PutLaws.{put-as, put-then}
 use borrow.Author.Needs.{needs}
 use Rattle.console.proofs.printing.kept_lines.Statement.{statement}
@@ -41,9 +42,9 @@ returns c =
     let second = c .before .before .before .before .before .before .before .cost-line2 in
     let third = c .before .before .cost-line3 in (
       put-then (omega (arith, first .ensures .1, second .ensures .1, s .pre))
-          (put-then (omega (arith, first .ensures .1, s .pre)) (put-as (ap (λ (z : ℤ). line boundName (signed z)) (toZ-ofZ (s .fits .bound))) (first .ensures .0))
-          (put-as (ap (λ (z : ℤ). line cost (signed z)) (toZ-ofZ (s .fits .cost))) (second .ensures .0)))
-          (put-as (ap (λ (z : ℤ). line gap (signed z)) (toZ-ofZ (s .fits .gap))) (third .ensures .0)),
+          (put-then (omega (arith, first .ensures .1, s .pre)) (put-as (ap (λ (z : ℤ). line (ascii "bound ") (signed z)) (toZ-ofZ (s .fits .bound))) (first .ensures .0))
+          (put-as (ap (λ (z : ℤ). line (ascii "cost ") (signed z)) (toZ-ofZ (s .fits .cost))) (second .ensures .0)))
+          (put-as (ap (λ (z : ℤ). line (ascii "gap ") (signed z)) (toZ-ofZ (s .fits .gap))) (third .ensures .0)),
       omega (arith, first .ensures .1, second .ensures .1, third .ensures .1),
     )
 
