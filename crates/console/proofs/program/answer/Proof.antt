@@ -6,7 +6,6 @@ use lib.ListN.{take, replicate}
 use lib.IntN.{pos}
 use Rattle.messages.specs.World.{lent}
 use Rattle.console.proofs.ProgramLaws.{Few, few, part-length, parts-sized}
-use borrow.Author.Needs.{needs}
 use Rattle.console.proofs.program.answer.Statement.{statement}
 use Rattle.console.proofs.program.answer.Tie as tie
 use Rattle.console.proofs.program.answer_in.Reads as answer-in-reads
@@ -17,7 +16,7 @@ small : (p : tie.After-read) → Few (p .read .result)
 small p = few (p .before .before .before .before .args .sheet .now) (p .read .ensures)
 
 read-requires : tie.Need-read-requires
-read-requires c κs = search needs
+read-requires c κs = tt
 
 array-borrow-prefix-nodes : tie.Need-array-borrow-prefix-nodes
 array-borrow-prefix-nodes c = small c .positions
@@ -53,10 +52,10 @@ answer-in-requires c κs =
     (p .read .ensures) nodes nodes (part-length 4_096 (r .cells) (pos 0) (small p .cells)) (part-length 64 (r .nodes) 0 (small p .nodes))
 
 same-length : tie.Need-same-length
-same-length c = search needs
+same-length c = c .before .before .before .before .before .before .answer-in .kept .1 .1 .1 .1 .1 .1 .0
 
 returns : tie.Need-returns
-returns c = search needs
+returns c = c .before .before .before .before .before .before .answer-in .ensures
 
 pub answer-spec : {M : Type 1} → statement M
 answer-spec =

@@ -42,10 +42,10 @@ module _ (p : tie.After-open) where
   left e = ap (λ (o : Opened). o .buffers) (p .«open» .ensures) ∙ open-leaves sheet before (start .pre) e
 
 open-requires : tie.Need-open-requires
-open-requires c κs = search needs
+open-requires c κs = tt
 
 refuse-requires : tie.Need-refuse-requires
-refuse-requires c κs = search needs
+refuse-requires c κs = tt
 
 same-length : tie.Need-same-length
 same-length c = search needs
@@ -69,7 +69,7 @@ returns c =
     ∙ ap (λ (x : List ℕ). outputOf x (start p .args .out .now)) (printed-refused (sheet p) (start p .args .records .now) (number p) (c .before .before .before .before .if1 .taken))
 
 refuse-requires-2 : tie.Need-refuse-requires-2
-refuse-requires-2 c κs = search needs
+refuse-requires-2 c κs = tt
 
 same-length-6 : tie.Need-same-length-6
 same-length-6 c = search needs
@@ -93,13 +93,13 @@ returns-2 c =
     ∙ ap (λ (x : List ℕ). outputOf x (start p .args .out .now)) (printed-long (sheet p) (start p .args .records .now) (readable p (c .before .before .before .before .before .if1 .left)) (c .before .before .before .before .if2 .taken))
 
 run-requires : tie.Need-run-requires
-run-requires c κs = search needs
+run-requires c κs = tt
 
 report-requires : tie.Need-report-requires
-report-requires c κs = search needs
+report-requires c κs = tt
 
 compose-requires : tie.Need-compose-requires
-compose-requires c κs = search needs
+compose-requires c κs = tt
 
 same-length-11 : tie.Need-same-length-11
 same-length-11 c = search needs

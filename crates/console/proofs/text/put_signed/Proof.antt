@@ -59,7 +59,7 @@ put-decimal-requires : tie.Need-put-decimal-requires
 put-decimal-requires c κs = simp length-set (omega (arith, few1 c))
 
 same-length : tie.Need-same-length
-same-length c = let p = c .before .before in p .put-decimal .kept .0 ∙ length-set (s1 c .args .out .now) (s1 c .args .at) 45
+same-length c = c .before .before .put-decimal .kept .0 ∙ simp length-set
 
 returns : tie.Need-returns
 returns c =
