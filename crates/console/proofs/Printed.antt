@@ -3,6 +3,7 @@
 use mathlib.Core.Path.{_≡_, refl, sym, ap, _∙_}
 use mathlib.Core.Bool.{true, false}
 use mathlib.Core.List.{List, [], _∷_, _++_}
+use mathlib.Core.Logic.{_⊎_, inl, inr}
 use Prim.Native.Nat.{ℕ, _≤_, _<_, min}
 use native.Mathlib.Omega.{arith}
 use borrow.Author.Tests.{eq-eqb, le-leb, lt-leb, leb-true, leb-false}
@@ -17,9 +18,20 @@ use Rattle.rules.specs.Costs.{Buffers, noneKept, opened}
 use Rattle.rules.specs.Run.{Ran}
 use Rattle.rules.specs.Held.{Kept, boundIn, keptPrice, gap}
 use Rattle.rules.specs.Calls.{filmOut, runOf, reportOf, run, next, rules}
-use Rattle.rules.proofs.Calls.{report-told}
+use Rattle.rules.proofs.Calls.{report-told, run-refused}
 use Rattle.console.specs.Lines.{refusedLine, countLines, keptLines, boundLines, atRecords, stopLine, reportText, textOf}
 use Rattle.console.specs.Program.{ranText, printed}
+
+true-false : true ≡ false → ⊥
+true-false e = let z : _≡_ {A = ℕ} 0 1 = cc in omega arith
+
+-- a refusal of a run that is not a record's
+eleven : (r : ℕ) → (r ≡ 0) ⊎ ((r ≡ 11) ⊎ ((r ≡ 12) ⊎ (r ≡ 13))) → atRecords r ≡ false → r ≡ 11
+unfolding atRecords
+eleven r (inl e) t = let z : true ≡ false = sym (ap atRecords e) ∙ t in absurd (true-false z)
+eleven r (inr (inl e)) t = e
+eleven r (inr (inr (inl e))) t = let z : true ≡ false = sym (ap atRecords e) ∙ t in absurd (true-false z)
+eleven r (inr (inr (inr e))) t = let z : true ≡ false = sym (ap atRecords e) ∙ t in absurd (true-false z)
 
 -- ---- a readable sheet and a list that is not too long: the counts of the run, and of the buffers that it leaves the bound and, with one kept, its cost and the gap. So the report is never refused
 
@@ -43,9 +55,10 @@ module _ (s : List ℕ) (readable : refusalOf s ≡ 0) (l : List ℕ) (short : l
     unfolding ranText textOf reportText rules next
     kept-text one = ran ∙ if-true _ _ counted ∙ ap (reportText (q .finished) (q .stuck) (q .refusal)) (report-told s readable filmOut (omega arith) (run filmOut l ∷ []) (refl, tt) .1 one)
 
-  pub refused-text : atRecords (q .refusal) ≡ false → printed s l ≡ refusedLine (q .refusal)
-  unfolding ranText textOf
-  refused-text t = ran ∙ if-false _ _ t
+  -- any other refusal is 11
+  pub partial-text : atRecords (q .refusal) ≡ false → printed s l ≡ refusedLine 11
+  unfolding ranText textOf rules next
+  partial-text t = ran ∙ if-false _ _ t ∙ ap refusedLine (eleven (q .refusal) (run-refused s readable filmOut (omega arith) [] tt l) t)
 
 -- ---- the program reads 22,097 bytes of the sheet and 40,961 of the records at most
 

@@ -74,6 +74,9 @@ pub out-short : {a : List ℕ} (text : List ℕ) → length a < 256 → outputs 
 unfolding outputOf
 out-short {a} text h = sym (if-true _ _ (lt-ltb (length a) 256 h))
 
+pub out-as : (a : List ℕ) {x y b : List ℕ} {r : ℕ} → x ≡ y → outputs b r ≡ outputOf x a → outputs b r ≡ outputOf y a
+out-as a e p = p ∙ ap (λ (t : List ℕ). outputOf t a) e
+
 -- for a caller: the count lies within the buffer
 pub output-counts : (text a : List ℕ) {b : List ℕ} {r : ℕ} → outputs b r ≡ outputOf text a → r ≤ length b
 unfolding outputOf

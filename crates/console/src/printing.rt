@@ -63,10 +63,10 @@ fn at_records(refusal: u8) -> bool
     if refusal == NONE {
         return true;
     }
-    if refusal == NO_SUCH_RECORD {
-        return true;
+    if refusal < NO_SUCH_RECORD {
+        return false;
     }
-    refusal == COST_OVERFLOW
+    refusal <= COST_OVERFLOW
 }
 
 // The refusal of a report, 0 for none.

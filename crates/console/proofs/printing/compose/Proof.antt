@@ -1,13 +1,10 @@
 -- `compose` meets its contract, by where the run stopped.
 -- Assumes nothing.
-use mathlib.Core.Path.{sym, ap, _∙_}
-use mathlib.Core.List.{List}
-use Prim.Native.Nat.{ℕ}
+use mathlib.Core.Path.{sym, _∙_}
 use Rattle.integers.proofs.Places.{if-true, if-false}
 use Rattle.messages.specs.Answers.{reportedAs}
 use Rattle.console.specs.Lines.{refusedLine, reportText, textOf}
-use Rattle.console.specs.Output.{outputOf}
-use Rattle.console.proofs.PutLaws.{put-out, out-short}
+use Rattle.console.proofs.PutLaws.{put-out, out-short, out-as}
 use borrow.Author.Needs.{needs}
 use Rattle.console.proofs.printing.compose.Statement.{statement}
 use Rattle.console.proofs.printing.compose.Tie as tie
@@ -35,9 +32,9 @@ unfolding textOf
 returns-2 c =
     let s = c .before .before .before .before .before .before .before .before in
     let a = s .args .answer in
-    put-out (c .before .before .before .before .before .before .if1 .left) (c .before .before .report-text .ensures)
-    ∙ ap (λ (x : List ℕ). outputOf x (s .args .out .now))
+    out-as (s .args .out .now)
     (sym (if-true (reportText (a .done) (a .stuck) (a .refusal) (reportedAs (s .args .report))) (refusedLine (a .refusal)) (sym (c .before .before .before .before .before .at-records .ensures) ∙ c .before .before .before .before .if2 .taken)))
+    (put-out (c .before .before .before .before .before .before .if1 .left) (c .before .before .report-text .ensures))
 
 same-length-2 : tie.Need-same-length-2
 same-length-2 c = search needs
@@ -47,9 +44,9 @@ unfolding textOf
 returns-3 c =
     let s = c .before .before .before .before .before .before .before .before in
     let a = s .args .answer in
-    put-out (c .before .before .before .before .before .before .if1 .left) (c .before .before .refused-line .ensures .0)
-    ∙ ap (λ (x : List ℕ). outputOf x (s .args .out .now))
+    out-as (s .args .out .now)
     (sym (if-false (reportText (a .done) (a .stuck) (a .refusal) (reportedAs (s .args .report))) (refusedLine (a .refusal)) (sym (c .before .before .before .before .before .at-records .ensures) ∙ c .before .before .before .before .if2 .left)))
+    (put-out (c .before .before .before .before .before .before .if1 .left) (c .before .before .refused-line .ensures .0))
 
 pub compose-spec : {M : Type 1} → statement M
 compose-spec =

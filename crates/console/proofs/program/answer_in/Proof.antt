@@ -9,9 +9,9 @@ use Rattle.rules.specs.Run.{Ran}
 use Rattle.rules.specs.Calls.{Opened, openOf, runOf, filmOut}
 use Rattle.messages.specs.World.{lent}
 use Rattle.messages.specs.Answers.{ranAs}
-use Rattle.console.specs.Output.{outputOf}
+use Rattle.console.proofs.PutLaws.{out-as}
 use Rattle.console.proofs.ProgramLaws.{open-refusal, open-leaves, printed-refused, printed-long, printed-ran}
-use borrow.Author.Needs.{needs}
+use native.Mathlib.Omega.{arith}
 use Rattle.console.proofs.program.answer_in.Statement.{statement}
 use Rattle.console.proofs.program.answer_in.Tie as tie
 use Rattle.console.proofs.printing.compose.Reads as compose-reads
@@ -48,49 +48,47 @@ refuse-requires : tie.Need-refuse-requires
 refuse-requires c κs = tt
 
 same-length : tie.Need-same-length
-same-length c = search needs
+same-length c = c .before .before .before .before .before .before .before .before .before .before .«open» .kept .1 .0
 
 same-length-2 : tie.Need-same-length-2
-same-length-2 c = search needs
+same-length-2 c = c .before .before .before .before .before .before .before .before .before .before .«open» .kept .1 .1 .0
 
 same-length-3 : tie.Need-same-length-3
-same-length-3 c = search needs
+same-length-3 c = c .before .before .before .before .before .before .before .before .before .before .«open» .kept .1 .1 .1 .0
 
 same-length-4 : tie.Need-same-length-4
-same-length-4 c = search needs
+same-length-4 c = c .before .before .before .before .before .before .before .before .before .before .«open» .kept .1 .1 .1 .1 .0
 
 same-length-5 : tie.Need-same-length-5
-same-length-5 c = search needs
+same-length-5 c = c .before .before .refuse .kept .1 .0
 
 returns : tie.Need-returns
 returns c =
     let p = c .before .before .before .before .before .before .before .before .before .before in
-    c .before .before .refuse .ensures
-    ∙ ap (λ (x : List ℕ). outputOf x (start p .args .out .now)) (printed-refused (sheet p) (start p .args .records .now) (number p) (c .before .before .before .before .if1 .taken))
+    out-as (start p .args .out .now) (printed-refused (sheet p) (start p .args .records .now) (number p) (c .before .before .before .before .if1 .taken)) (c .before .before .refuse .ensures)
 
 refuse-requires-2 : tie.Need-refuse-requires-2
 refuse-requires-2 c κs = tt
 
 same-length-6 : tie.Need-same-length-6
-same-length-6 c = search needs
+same-length-6 c = c .before .before .before .before .before .before .before .before .before .before .before .«open» .kept .1 .0
 
 same-length-7 : tie.Need-same-length-7
-same-length-7 c = search needs
+same-length-7 c = c .before .before .before .before .before .before .before .before .before .before .before .«open» .kept .1 .1 .0
 
 same-length-8 : tie.Need-same-length-8
-same-length-8 c = search needs
+same-length-8 c = c .before .before .before .before .before .before .before .before .before .before .before .«open» .kept .1 .1 .1 .0
 
 same-length-9 : tie.Need-same-length-9
-same-length-9 c = search needs
+same-length-9 c = c .before .before .before .before .before .before .before .before .before .before .before .«open» .kept .1 .1 .1 .1 .0
 
 same-length-10 : tie.Need-same-length-10
-same-length-10 c = search needs
+same-length-10 c = c .before .before .refuse2 .kept .1 .0
 
 returns-2 : tie.Need-returns-2
 returns-2 c =
     let p = c .before .before .before .before .before .before .before .before .before .before .before in
-    c .before .before .refuse2 .ensures
-    ∙ ap (λ (x : List ℕ). outputOf x (start p .args .out .now)) (printed-long (sheet p) (start p .args .records .now) (readable p (c .before .before .before .before .before .if1 .left)) (c .before .before .before .before .if2 .taken))
+    out-as (start p .args .out .now) (printed-long (sheet p) (start p .args .records .now) (readable p (c .before .before .before .before .before .if1 .left)) (omega (arith, c .before .before .before .before .if2 .taken))) (c .before .before .refuse2 .ensures)
 
 run-requires : tie.Need-run-requires
 run-requires c κs = tt
@@ -102,19 +100,19 @@ compose-requires : tie.Need-compose-requires
 compose-requires c κs = tt
 
 same-length-11 : tie.Need-same-length-11
-same-length-11 c = search needs
+same-length-11 c = c .before .before .before .before .before .before .before .before .before .before .before .before .before .before .run .kept .1 .1 .0 ∙ c .before .before .before .before .before .before .before .before .before .before .before .before .before .before .before .before .before .before .before .before .before .before .before .before .before .before .«open» .kept .1 .0
 
 same-length-12 : tie.Need-same-length-12
-same-length-12 c = search needs
+same-length-12 c = c .before .before .before .before .before .before .before .before .before .before .before .before .before .before .run .kept .1 .1 .1 .0 ∙ c .before .before .before .before .before .before .before .before .before .before .before .before .before .before .before .before .before .before .before .before .before .before .before .before .before .before .«open» .kept .1 .1 .0
 
 same-length-13 : tie.Need-same-length-13
-same-length-13 c = search needs
+same-length-13 c = c .before .before .before .before .before .before .before .before .before .before .before .before .before .before .run .kept .1 .1 .1 .1 .0 ∙ c .before .before .before .before .before .before .before .before .before .before .before .before .before .before .before .before .before .before .before .before .before .before .before .before .before .before .«open» .kept .1 .1 .1 .0
 
 same-length-14 : tie.Need-same-length-14
-same-length-14 c = search needs
+same-length-14 c = c .before .before .before .before .before .before .before .before .before .before .before .before .before .before .run .kept .1 .1 .1 .1 .1 .0 ∙ c .before .before .before .before .before .before .before .before .before .before .before .before .before .before .before .before .before .before .before .before .before .before .before .before .before .before .«open» .kept .1 .1 .1 .1 .0
 
 same-length-15 : tie.Need-same-length-15
-same-length-15 c = search needs
+same-length-15 c = c .before .before .compose .kept .1 .1 .0
 
 returns-3 : tie.Need-returns-3
 returns-3 c =
@@ -122,11 +120,11 @@ returns-3 c =
     let run = c .before .before .before .before .before .before .before .before .before .before .before .before .before .before .run in
     let e = readable p (c .before .before .before .before .before .before .before .before .before .before .before .before .before .before .before .before .before .before .before .before .if1 .left) in
     let q : Ran = ranAs (lent (run .last .1 .1 .0) (run .last .1 .1 .1 .0) (run .last .1 .1 .1 .1 .0) (run .last .1 .1 .1 .1 .1 .0)) (run .result) in
-    c .before .before .compose .ensures
-    ∙ ap (λ (x : List ℕ). outputOf x (start p .args .out .now))
-    (printed-ran (sheet p) (start p .args .records .now) e (c .before .before .before .before .before .before .before .before .before .before .before .before .before .before .before .before .before .before .before .if2 .left) {q = q}
-    (run .ensures ∙ ap (λ (b : Buffers). runOf (sheet p) filmOut b (start p .args .records .now)) (left p e))
-    (c .before .before .before .before .report .ensures))
+    let f : q ≡ runOf (sheet p) filmOut (opened (instanceOf (sheet p))) (start p .args .records .now) =
+    run .ensures ∙ ap (λ (b : Buffers). runOf (sheet p) filmOut b (start p .args .records .now)) (left p e) in
+    out-as (start p .args .out .now)
+    (printed-ran (sheet p) (start p .args .records .now) e (omega (arith, c .before .before .before .before .before .before .before .before .before .before .before .before .before .before .before .before .before .before .before .if2 .left)) f (c .before .before .before .before .report .ensures))
+    (c .before .before .compose .ensures)
 
 pub answer-in-spec : {M : Type 1} → statement M
 answer-in-spec =
