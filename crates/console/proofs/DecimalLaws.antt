@@ -1,20 +1,19 @@
 -- Numbers in decimal: a digit or the digits of n / 10 and the last, how many there are, and that they stand for n.
 -- Assumes nothing.
-use mathlib.Core.Path.{_≡_, refl, sym, ap, _∙_}
-use mathlib.Core.Bool.{true, false}
+use mathlib.Core.Path.{_≡_, refl, ap, _∙_}
 use mathlib.Core.List.{List, [], _∷_, _++_}
 use Prim.Native.Nat.{ℕ, zero, suc, _+_, _-_, _*_, _/_, _%_, _^_, _≤_, _<_}
 use native.Mathlib.Nat.{pow-suc}
 use native.Mathlib.Omega.{arith}
 use borrow.Author.Tests.{lt-ltb, le-ltb, ltb-true, ltb-false}
 use lib.Dec.{ltb}
-use lib.ListN.{length, length-append}
+use lib.ListN.{length, getD, length-append, List·getD-append}
 use lib.IntN.{ℤ, pos, negsuc, natAbs}
 use lib.Signed.{_≤ℤ_, _<ℤ_}
 use mir.Syntax.{w64}
 use mir.Val.{SFits}
 use Rattle.integers.proofs.Parts.{linear, abs, range}
-use Rattle.integers.proofs.Places.{by-test, if-true, if-false}
+use Rattle.integers.proofs.Places.{by-test, by-cond, if-true, if-false}
 use Rattle.console.specs.Decimal.{digitsIn, decimal, signed, valueFrom}
 
 -- more room changes nothing
@@ -90,3 +89,23 @@ value-digits (suc m) n h =
 pub value-decimal : (n : ℕ) → valueFrom 0 (decimal n) ≡ n
 unfolding decimal
 value-decimal n = value-digits (suc n) n (omega arith)
+
+-- ---- and begin with no 0, but for 0 itself
+
+some-digits : (m n : ℕ) → n < m → 0 < length (digitsIn m n)
+unfolding digitsIn
+some-digits zero n h = absurd (omega arith)
+some-digits (suc m) n h =
+    by-cond (λ (l : List ℕ). 0 < length l) (ltb n 10) (λ t. omega arith) (λ t. rw length-append (omega arith))
+
+lead-digits : (m n : ℕ) → n < m → 0 < n → 48 < getD (digitsIn m n) 0 0
+unfolding digitsIn
+lead-digits zero n h g = absurd (omega arith)
+lead-digits (suc m) n h g =
+    by-cond (λ (l : List ℕ). 48 < getD l 0 0) (ltb n 10) (λ t. omega arith)
+    (λ t. let l = ltb-false n 10 t in
+    rw (List·getD-append (digitsIn m (n / 10)) ((48 + n % 10) ∷ []) 0 0 (some-digits m (n / 10) (omega arith))) (lead-digits m (n / 10) (omega arith) (omega arith)))
+
+pub lead-decimal : (n : ℕ) → 0 < n → 48 < getD (decimal n) 0 0
+unfolding decimal
+lead-decimal n h = lead-digits (suc n) n (omega arith) h

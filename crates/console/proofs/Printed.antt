@@ -4,20 +4,20 @@ use mathlib.Core.Path.{_≡_, refl, sym, ap, _∙_}
 use mathlib.Core.Bool.{true, false}
 use mathlib.Core.List.{List, [], _∷_, _++_}
 use mathlib.Core.Logic.{_⊎_, inl, inr}
-use Prim.Native.Nat.{ℕ, _≤_, _<_, min}
+use Prim.Native.Nat.{ℕ, _≤_, _<_}
 use native.Mathlib.Omega.{arith}
 use borrow.Author.Tests.{eq-eqb, le-leb, lt-leb, leb-true, leb-false}
-use lib.Dec.{eqb, leb}
-use lib.ListN.{length, take, length-take}
+use lib.Dec.{leb}
+use lib.ListN.{length, take}
 use lib.Seq.{take-all, length-take-le}
 use Rattle.integers.specs.Checks.{firstFailure}
 use Rattle.integers.proofs.Places.{by-test, if-true, if-false}
 use Rattle.instance.specs.Instance.{Instance}
 use Rattle.instance.specs.Sheet.{instanceOf, shortEnough, checks, refusalOf}
-use Rattle.rules.specs.Costs.{Buffers, noneKept, opened}
+use Rattle.rules.specs.Costs.{noneKept, opened}
 use Rattle.rules.specs.Run.{Ran}
 use Rattle.rules.specs.Held.{Kept, boundIn, keptPrice, gap}
-use Rattle.rules.specs.Calls.{filmOut, runOf, reportOf, run, next, rules}
+use Rattle.rules.specs.Calls.{filmOut, runOf, run, next, rules}
 use Rattle.rules.proofs.Calls.{report-told, run-refused}
 use Rattle.console.specs.Lines.{refusedLine, countLines, keptLines, boundLines, atRecords, stopLine, reportText, textOf}
 use Rattle.console.specs.Program.{ranText, printed}

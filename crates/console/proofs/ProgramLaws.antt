@@ -1,24 +1,22 @@
 -- The whole program: what is printed in each case, and that the buffers lent are of the right lengths.
 -- Assumes nothing.
-use mathlib.Core.Path.{_≡_, refl, sym, ap, _∙_}
-use mathlib.Core.Bool.{true, false, cond, _&&_}
+use mathlib.Core.Path.{_≡_, sym, ap, _∙_}
+use mathlib.Core.Bool.{true, false}
 use mathlib.Core.List.{List}
 use Prim.Native.Nat.{ℕ, _≤_, _<_}
 use native.Mathlib.Omega.{arith}
 use borrow.Author.Tests.{eq-eqb, ne-eqb, eqb-true, eqb-false, le-leb, lt-leb}
-use lib.Dec.{eqb, leb}
+use lib.Dec.{eqb}
 use lib.ListN.{length, take, replicate, length-replicate}
 use lib.Seq.{length-take-le}
-use Rattle.integers.proofs.Places.{by-test, by-cond, if-true, if-false, and-both}
-use Rattle.instance.specs.Instance.{Instance}
+use Rattle.integers.proofs.Places.{by-test, if-true, if-false, and-both}
 use Rattle.instance.specs.Sheet.{instanceOf, refusalOf}
 use Rattle.instance.specs.declared.reading.Layout.{Layout}
 use Rattle.instance.specs.Layout.{refusedBy, described, answerOf, layoutOf}
-use Rattle.instance.proofs.LaidOut.{LaidOut, laid-out, refusal-is}
+use Rattle.instance.proofs.LaidOut.{laid-out, refusal-is}
 use Rattle.rules.specs.Costs.{Buffers, opened}
 use Rattle.rules.specs.Run.{Ran}
 use Rattle.rules.specs.Calls.{Opened, Report, lengthsOk, openOf, runOf, reportOf, filmOut}
-use Rattle.messages.specs.World.{opens}
 use Rattle.messages.proofs.OpenLaws.{open-unread, open-fills, lengths-by}
 use Rattle.console.specs.Lines.{refusedLine, textOf}
 use Rattle.console.specs.Program.{ranText, printed}

@@ -2,7 +2,6 @@
 -- Assumes nothing.
 use mathlib.Core.Path.{_≡_, refl}
 use mathlib.Core.Logic.{_⊎_, inl, inr}
-use mathlib.Core.List.{List, [], _∷_}
 use Prim.Native.Nat.{ℕ}
 use native.Mathlib.Omega.{arith}
 use denote.Enum.Declared.{tagOf}
@@ -13,7 +12,7 @@ use Rattle.messages.proofs.answers.Report.{the-type}
 use Rattle.console.specs.Lines.{refusedLine, reportText}
 use Rattle.console.specs.Unkept.{refusalIn, Unkept}
 
--- neither of two variants
+-- the variant's number
 abbrev pub variant : Report → ℕ
 variant t = tagOf the-type t
 

@@ -1,6 +1,5 @@
 -- Reports with none kept, for private functions.
 use Prim.Native.Nat.{ℕ}
-use lib.IntN.{ℤ}
 use Rattle.rules.specs.Calls.{Report, refused, bound, kept}
 
 -- the refusal, 0 for none

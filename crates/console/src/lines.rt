@@ -2,7 +2,6 @@
 use crate::text::put;
 use crate::text::put_decimal;
 use crate::text::put_signed;
-ghost use mathlib.Core.Path.{_≡_};
 ghost use Prim.Native.Nat.{_+_, _≤_};
 ghost use lib.ListN.{length};
 ghost use Rattle.console.specs.Decimal.{decimal, signed};

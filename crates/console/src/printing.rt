@@ -16,8 +16,8 @@ ghost use Rattle.console.specs.Lines.{refusedLine, countLines, keptLines
 ghost use Rattle.console.specs.Unkept.{refusalIn, Unkept};
 ghost use Rattle.console.specs.Output.{Put, outputs, outputOf};
 
-// The least length of a buffer that text is put into. No text is as long.
-pub(crate) const ROOM: usize = 256;
+// The least length of a buffer that is written to. No text is as long.
+const ROOM: usize = 256;
 
 fn count_lines(out: &mut [u8], done: usize, stuck: usize) -> usize
     requires { ⌜ 64 ≤ length (now out) ⌝ }
@@ -93,6 +93,7 @@ fn unkept_text(out: &mut [u8], answer: Answer, report: Report) -> usize
     stop_line(out, stop, answer.refusal)
 }
 
+// The text of a report that was made of a run's last buffers.
 fn report_text(out: &mut [u8], answer: Answer, report: Report) -> usize
     requires { ⌜ 256 ≤ length (now out) ⌝ }
     ensures { λ r. ⌜ Put 0 (reportText (answer .done) (answer .stuck) (answer .refusal) (reportedAs report)) (now (out .entry)) (now (out .exit)) r ⌝ }
@@ -105,17 +106,8 @@ fn report_text(out: &mut [u8], answer: Answer, report: Report) -> usize
     stop_line(out, stop, answer.refusal)
 }
 
-// Puts the line of a refusal at the start of out, and answers its length; in a buffer of fewer than 256 bytes nothing, and 0.
-pub(crate) fn refuse(refusal: u8, out: &mut [u8]) -> usize
-    ensures { λ r. ⌜ outputs (now (out .exit)) r ≡ outputOf (refusedLine refusal) (now (out .entry)) ⌝ }
-{
-    if out.len() < ROOM {
-        return 0;
-    }
-    refused_line(out, 0, refusal)
-}
-
-// The same of the whole text.
+// Puts the text of a run and of the report after it at the start of out, and answers its length; in a buffer of fewer
+// than 256 bytes nothing, and 0.
 pub fn compose(answer: Answer, report: Report, out: &mut [u8]) -> usize
     ensures { λ r. ⌜ outputs (now (out .exit)) r ≡ outputOf (textOf (answer .done) (answer .stuck) (answer .refusal) (reportedAs report)) (now (out .entry)) ⌝ }
 {
@@ -128,4 +120,14 @@ pub fn compose(answer: Answer, report: Report, out: &mut [u8]) -> usize
     } else {
         refused_line(out, 0, refusal)
     }
+}
+
+// The same of the line of a refusal.
+pub(crate) fn refuse(refusal: u8, out: &mut [u8]) -> usize
+    ensures { λ r. ⌜ outputs (now (out .exit)) r ≡ outputOf (refusedLine refusal) (now (out .entry)) ⌝ }
+{
+    if out.len() < ROOM {
+        return 0;
+    }
+    refused_line(out, 0, refusal)
 }

@@ -1,4 +1,4 @@
-// Text put into a lent buffer at a place. Each function answers the place after what it put.
+// Text put into a lent buffer at a place. Each function answers the place after its text.
 ghost use mathlib.Core.Path.{_≡_};
 ghost use Prim.Native.Nat.{_+_, _≤_};
 ghost use lib.ListN.{length};
@@ -24,11 +24,11 @@ pub(crate) fn put_decimal(out: &mut [u8], at: usize, n: u64) -> usize
     ensures { λ r. ⌜ Put at (decimal n) (now (out .entry)) (now (out .exit)) r ⌝ }
 {
     if n < 10 {
-        out[at] = 48 + n as u8;
+        out[at] = b'0' + n as u8;
         return at + 1;
     }
     let last = put_decimal(out, at, n / 10);
-    out[last] = 48 + (n % 10) as u8;
+    out[last] = b'0' + (n % 10) as u8;
     last + 1
 }
 
