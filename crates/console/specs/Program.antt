@@ -1,0 +1,22 @@
+-- The whole program, from the bytes of the sheet and of the records to the text.
+use mathlib.Core.Bool.{cond}
+use mathlib.Core.List.{List}
+use Prim.Native.Nat.{ℕ}
+use lib.Dec.{eqb, leb}
+use lib.ListN.{length}
+use Rattle.instance.specs.Sheet.{instanceOf, refusalOf}
+use Rattle.rules.specs.Costs.{opened}
+use Rattle.rules.specs.Run.{Ran}
+use Rattle.rules.specs.Calls.{filmOut, runOf, reportOf}
+use Rattle.console.specs.Lines.{refusedLine, textOf}
+
+-- a run and the report of what it leaves
+unfoldable pub ranText : List ℕ → Ran → List ℕ
+ranText s q = textOf (q .finished) (q .stuck) (q .refusal) (reportOf s filmOut (q .buffers))
+
+-- the sheet's own refusals; "over 40,960 bytes is refusal 11"; otherwise the records are run on what opening leaves
+unfoldable pub printed : List ℕ → List ℕ → List ℕ
+printed s l =
+    cond (eqb (refusalOf s) 0)
+    (cond (leb (length l) 40_960) (ranText s (runOf s filmOut (opened (instanceOf s)) l)) (refusedLine 11))
+    (refusedLine (refusalOf s))
