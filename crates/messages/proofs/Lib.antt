@@ -1,5 +1,6 @@
 -- Laws of the code that moves costs.
 pub mod RowLaws
+pub mod ExcessLaws
 pub mod Sight
 pub mod FillLaws
 pub mod OpenLaws

@@ -1,10 +1,13 @@
 // Rows of costs: the least of a row, a cost's least rival, shares of a distance, and whether costs lie within the limit.
+use std::num::wrapping_add_u64;
+use std::num::wrapping_sub_u64;
 ghost use mathlib.Core.Path.{_≡_};
-ghost use Prim.Native.Nat.{_≤_, _<_};
+ghost use Prim.Native.Nat.{_^_, _≤_, _<_};
+ghost use lib.Dec.{ltb};
 ghost use lib.ListN.{length, getD};
 ghost use lib.IntN.{pos, _+ℤ_, _-ℤ_};
 ghost use mir.Syntax.{w64};
-ghost use mir.Val.{SFits};
+ghost use mir.Val.{SFits, ofZ};
 ghost use Rattle.integers.specs.Least.{minℤ, leastFrom, leastOf, without};
 ghost use Rattle.integers.specs.Share.{share, amount};
 ghost use Rattle.integers.specs.Sum.{Within};
@@ -86,19 +89,39 @@ pub(crate) fn in_range(cost: i64) -> bool
     if cost < -LIMIT { false } else { cost <= LIMIT }
 }
 
-// Whether each cost does.
+// The bits of a cost.
+fn bits_of(cost: i64) -> u64
+    ensures { λ r. ⌜ r ≡ ofZ w64 cost ⌝ }
+{
+    if cost < 0 {
+        u64::MAX - ((-1 - cost) as u64)
+    } else {
+        cost as u64
+    }
+}
+
+// From here on the highest bit is set.
+pub(crate) const OUT: u64 = 0x8000_0000_0000_0000;
+
+// At least `OUT` if a cost passes the limit. Joined by `|`, many costs take one test.
+pub(crate) fn excess(cost: i64) -> u64
+    ensures { λ r. ⌜ ltb r (2 ^ 63) ≡ within filmOut cost ⌝ }
+{
+    let bits = bits_of(cost);
+    wrapping_add_u64(bits, LIMIT as u64) | wrapping_sub_u64(LIMIT as u64, bits)
+}
+
+// Whether each cost lies within the limit. It does not stop at the first that does not, so that several are tested at a time.
 pub(crate) fn all_in_range(costs: &[i64]) -> bool
     ensures { λ r. ⌜ r ≡ every (within filmOut) (now (costs .entry)) ⌝ }
 {
+    let mut all = 0;
     let mut i = 0;
     while i < costs.len() {
-        if in_range(costs[i]) {
-            i += 1;
-        } else {
-            return false;
-        }
+        all = all | excess(costs[i]);
+        i += 1;
     }
-    true
+    all < OUT
 }
 
 // What the cost at `k` gives against the others of its row: a share of its distance from the least of them, and 0 with no other.
