@@ -38,25 +38,52 @@ pub(crate) fn minus(a: i64, b: i64) -> i64
     a - b
 }
 
-// The least of `start` and the costs of a row.
-pub(crate) fn least(row: &[i64], start: i64) -> i64
+// The less of a cost of a row and the best so far.
+fn less_at(row: &[i64], i: usize, best: i64) -> i64
+    requires { ⌜ i < length (now row) ⌝ }
+    ensures { λ r. ⌜ r ≡ minℤ (getD (now (row .entry)) i (pos 0)) best ⌝ }
+{
+    smaller(row[i], best)
+}
+
+// The least of `start` and the costs of a row, one after the other.
+fn least_in_turn(row: &[i64], start: i64) -> i64
     ensures { λ r. ⌜ r ≡ leastFrom start (now (row .entry)) ⌝ }
 {
     let mut best = start;
     let mut i = 0;
     while i < row.len() {
-        best = smaller(row[i], best);
+        best = less_at(row, i, best);
         i += 1;
     }
     best
 }
 
-// The least cost of a row.
+// The least of `start` and the costs of a row: four side by side, which wait for each other less, then the rest.
+pub(crate) fn least(row: &[i64], start: i64) -> i64
+    ensures { λ r. ⌜ r ≡ leastFrom start (now (row .entry)) ⌝ }
+{
+    let mut a = start;
+    let mut b = start;
+    let mut c = start;
+    let mut d = start;
+    let mut i = 0;
+    while 3 < row.len() - i {
+        a = less_at(row, i, a);
+        b = less_at(row, i + 1, b);
+        c = less_at(row, i + 2, c);
+        d = less_at(row, i + 3, d);
+        i += 4;
+    }
+    least_in_turn(&row[i..], smaller(smaller(a, b), smaller(c, d)))
+}
+
+// The least cost of a row. That the first counts twice changes nothing.
 pub(crate) fn least_of(row: &[i64]) -> i64
     requires { ⌜ 0 < length (now row) ⌝ }
     ensures { λ r. ⌜ r ≡ leastOf (now (row .entry)) ⌝ }
 {
-    least(&row[1..], row[0])
+    least(row, row[0])
 }
 
 // The least of the other costs of a row.
