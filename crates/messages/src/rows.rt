@@ -98,11 +98,14 @@ pub(crate) fn rival(row: &[i64], k: usize) -> i64
     least(&row[next..], least_of(&row[..k]))
 }
 
-// One r-th of the distance `d`, rounded toward zero.
+// One r-th of the distance `d`, rounded toward zero. Most shares are 1, and a division takes long.
 pub(crate) fn share_of(d: i64, r: u8) -> i64
     requires { ⌜ 1 ≤ r ⌝ }
     ensures { λ p. ⌜ p ≡ share d r ⌝ }
 {
+    if r == 1 {
+        return d;
+    }
     d / (r as i64)
 }
 

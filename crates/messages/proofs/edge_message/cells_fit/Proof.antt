@@ -1,10 +1,11 @@
--- `cells_fit` meets its contract: each row is tested in turn.
-use Prim.Native.Nat.{ℕ, _+_, _-_, _*_, _≤_}
+-- `cells_fit` meets its contract: what each row gives is joined, so the test at the end is that of each row.
+use Prim.Native.Nat.{ℕ, _+_, _-_, _*_, _^_, _≤_}
 use native.Mathlib.Omega.{arith}
 use mathlib.Core.Path.{_≡_, sym, ap, ap₂, _∙_}
 use mathlib.Core.Bool.{Bool}
 use mathlib.Core.List.{List}
 use borrow.Author.Needs.{needs}
+use lib.Dec.{ltb}
 use lib.ListN.{length, take, drop}
 use lib.IntN.{ℤ}
 use denote.Ref.{now}
@@ -12,18 +13,18 @@ use Rattle.integers.specs.Checks.{within}
 use Rattle.integers.specs.Places.{every}
 use Rattle.integers.specs.Rows.{part}
 use Rattle.integers.proofs.Rows.{within-part}
-use Rattle.integers.proofs.Checks.{Tested, tested-none, tested-more, tested-all, below-fails}
 use Rattle.rules.specs.Calls.{filmOut}
 use Rattle.messages.specs.EdgeMessage.{movedLine}
 use Rattle.messages.proofs.EdgeLaws.{row-in, row-length, lines-fit}
+use Rattle.messages.proofs.ExcessLaws.{Joining, joining-none, joining-more, joining-all}
 use Rattle.messages.proofs.edge_message.cells_fit.Statement.{statement}
 use Rattle.messages.proofs.edge_message.cells_fit.Tie as tie
 
 abbrev Inv-loop : tie.InvT-loop
-Inv-loop cells width height by-row amounts k₀ a₀ k a = (a ≡ k * width) × Tested (λ r. every (within filmOut) (movedLine by-row r amounts (part cells (r * width) width))) height k
+Inv-loop cells width height by-row amounts all₀ k₀ a₀ all k a = (a ≡ k * width) × Joining (λ r. every (within filmOut) (movedLine by-row r amounts (part cells (r * width) width))) height k all
 
 abbrev μ-loop : tie.MeasureT-loop
-μ-loop cells width height by-row amounts k₀ a₀ k a = height - k
+μ-loop cells width height by-row amounts all₀ k₀ a₀ all k a = height - k
 
 -- the row of this turn: it ends within the table, and it is the row k
 module _ (c : tie.In-loop Inv-loop μ-loop) where
@@ -45,32 +46,32 @@ module _ (c : tie.In-loop Inv-loop μ-loop) where
 abbrev t : tie.Start Inv-loop μ-loop → ℕ → Bool
 t q r = every (within filmOut) (movedLine (q .args .by-row) r (now (q .args .amounts)) (part (now (q .args .cells)) (r * q .args .width) (q .args .width)))
 
-answer : (c : tie.After-line-fits Inv-loop μ-loop) → t (c .before .before .before .before) (c .before .before .before .loop .k) ≡ c .line-fits .result
+answer : (c : tie.After-excess-line Inv-loop μ-loop) → ltb (c .excess-line .result) (2 ^ 63) ≡ t (c .before .before .before .before) (c .before .before .before .loop .k)
 answer c =
     let p = c .before .before .before in
     let q = p .before in
-    sym (c .line-fits .ensures ∙ ap (λ (m : List ℤ). every (within filmOut) (movedLine (q .args .by-row) (p .loop .k) (now (q .args .amounts)) m)) (line (c .before .before)))
+    c .excess-line .ensures ∙ ap (λ (m : List ℤ). every (within filmOut) (movedLine (q .args .by-row) (p .loop .k) (now (q .args .amounts)) m)) (line (c .before .before))
 
 loop-holds : tie.Need-loop-holds Inv-loop μ-loop
-loop-holds c = (omega arith, tested-none _ _)
+loop-holds c = (omega arith, joining-none _ _)
 
 add-b : tie.Need-add-b Inv-loop μ-loop
 add-b c = omega (arith, end c)
 
-mul-line-fits : tie.Need-mul-line-fits Inv-loop μ-loop
-mul-line-fits c = omega (arith, end c)
+mul-excess-line : tie.Need-mul-excess-line Inv-loop μ-loop
+mul-excess-line c = omega (arith, end c)
 
-sub-line-fits : tie.Need-sub-line-fits Inv-loop μ-loop
-sub-line-fits c = search needs
+sub-excess-line : tie.Need-sub-excess-line Inv-loop μ-loop
+sub-excess-line c = search needs
 
-part-line-fits-start : tie.Need-part-line-fits-start Inv-loop μ-loop
-part-line-fits-start c = search needs
+part-excess-line-start : tie.Need-part-excess-line-start Inv-loop μ-loop
+part-excess-line-start c = search needs
 
-part-line-fits-end : tie.Need-part-line-fits-end Inv-loop μ-loop
-part-line-fits-end c = omega (arith, end c)
+part-excess-line-end : tie.Need-part-excess-line-end Inv-loop μ-loop
+part-excess-line-end c = omega (arith, end c)
 
-line-fits-requires : tie.Need-line-fits-requires Inv-loop μ-loop
-line-fits-requires c κs =
+excess-line-requires : tie.Need-excess-line-requires Inv-loop μ-loop
+excess-line-requires c κs =
     let q = c .before .before .before in
     let p = c .before .before in
     rw (line (c .before)) (
@@ -86,21 +87,14 @@ loop-less c = search needs
 
 loop-again : tie.Need-loop-again Inv-loop μ-loop
 loop-again c =
-    let p = c .before .before .before .before in
-    (omega arith, tested-more (p .loop .inv .1) (c .before .before .before .loop-test .taken) (answer (c .before) ∙ c .if1 .taken))
+    let p = c .before .before .before in
+    (omega arith, joining-more (c .excess-line .result) (p .loop .inv .1) (c .before .before .loop-test .taken) (answer c))
 
 returns : tie.Need-returns Inv-loop μ-loop
 returns c =
-    let p = c .before .before .before .before in
-    let q = p .before in
-    sym (lines-fit (q .args .width) (q .args .height) (now (q .args .cells)) (q .pre .0) (within filmOut) (q .args .by-row) (now (q .args .amounts))
-    ∙ below-fails (q .args .height) (t q) (p .loop .k) (c .before .before .before .loop-test .taken) (answer (c .before) ∙ c .if1 .left))
-
-returns-2 : tie.Need-returns-2 Inv-loop μ-loop
-returns-2 c =
     let q = c .before .before in
-    sym (lines-fit (q .args .width) (q .args .height) (now (q .args .cells)) (q .pre .0) (within filmOut) (q .args .by-row) (now (q .args .amounts))
-    ∙ tested-all (c .before .loop .inv .1) (c .loop-test .left))
+    joining-all (c .before .loop .inv .1) (c .loop-test .left)
+    ∙ sym (lines-fit (q .args .width) (q .args .height) (now (q .args .cells)) (q .pre .0) (within filmOut) (q .args .by-row) (now (q .args .amounts)))
 
 pub cells-fit-spec : {M : Type 1} → statement M
 cells-fit-spec =
@@ -110,13 +104,12 @@ cells-fit-spec =
     μ-loop
     loop-holds
     add-b
-    mul-line-fits
-    sub-line-fits
-    part-line-fits-start
-    part-line-fits-end
-    line-fits-requires
+    mul-excess-line
+    sub-excess-line
+    part-excess-line-start
+    part-excess-line-end
+    excess-line-requires
     add-k
     loop-less
     loop-again
-    returns
-    returns-2)
+    returns)
