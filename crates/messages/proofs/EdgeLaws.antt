@@ -234,10 +234,12 @@ module _ (w h : ℕ) (l : List ℤ) (s : Shape w h l) where
       (λ k g. let o : k < h = omega arith in subst (λ (x : ℤ). leastOf l ≤ℤ x) (sym (at k o)) (row-order k o))
       (λ i g. let o : i / w < h = div-lt-iff-lt-mul (s .wide) .1 (omega (arith, s .size)) in
       let r : i % w < w = mod-lt i (s .wide) in
-      let e : i / w * w + i % w ≡ i = div-add-mod' i w in
-      (omega arith, subst (λ (x : ℤ). x ≤ℤ getD l i (pos 0)) (sym (at (i / w) o))
-      (subst (λ (x : ℤ). rowLeastIn l w (i / w) ≤ℤ x) (getD-part l (i / w * w) w (i % w) (pos 0) r ∙ ap (λ (j : ℕ). getD l j (pos 0)) e)
-      (least-of-le (part l (i / w * w) w) (i % w) (pos 0) (omega (arith, row-length (i / w) o))))))
+      let e : i / w * w + i % w ≡ i = div-add-mod' i w in (
+        omega arith,
+        subst (λ (x : ℤ). x ≤ℤ getD l i (pos 0)) (sym (at (i / w) o))
+            (subst (λ (x : ℤ). rowLeastIn l w (i / w) ≤ℤ x) (getD-part l (i / w * w) w (i % w) (pos 0) r ∙ ap (λ (j : ℕ). getD l j (pos 0)) e)
+            (least-of-le (part l (i / w * w) w) (i % w) (pos 0) (omega (arith, row-length (i / w) o)))),
+      ))
 
   pub least-columns : leastOf (take w (over (columnLeast l w h) w zeros)) ≡ leastOf l
   least-columns =
@@ -252,10 +254,12 @@ module _ (w h : ℕ) (l : List ℤ) (s : Shape w h l) where
       let f : ℕ → ℤ = (λ r. getD l (w * r + i % w) (pos 0)) in
       let e : w * (i / w) + i % w ≡ i = omega (arith, div-add-mod' i w) in
       let u = length-map (range 0 h) f in
-      let v = length-range 0 h in
-      (omega arith, subst (λ (x : ℤ). x ≤ℤ getD l i (pos 0)) (sym (at (i % w) r))
-      (subst (λ (x : ℤ). columnLeast l w h (i % w) ≤ℤ x) (getD-map h f (i / w) o ∙ ap (λ (j : ℕ). getD l j (pos 0)) e)
-      (least-of-le (map f (range 0 h)) (i / w) (pos 0) (omega arith)))))
+      let v = length-range 0 h in (
+        omega arith,
+        subst (λ (x : ℤ). x ≤ℤ getD l i (pos 0)) (sym (at (i % w) r))
+            (subst (λ (x : ℤ). columnLeast l w h (i % w) ≤ℤ x) (getD-map h f (i / w) o ∙ ap (λ (j : ℕ). getD l j (pos 0)) e)
+            (least-of-le (map f (range 0 h)) (i / w) (pos 0) (omega arith))),
+      ))
 
   -- the least of each column after the first row, and after one row more
   pub first-row : over (λ k. getD (take w l) k (pos 0)) (length (take w l)) zeros ≡ over (columnLeast l w 1) w zeros
