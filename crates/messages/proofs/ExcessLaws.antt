@@ -1,23 +1,26 @@
 -- One test for many costs: each gives a number that reaches the half of the width exactly if the cost passes the limit, and these are joined by their bits.
 -- Assumes nothing.
-use mathlib.Core.Path.{_≡_, refl, sym, ap, ap₂, _∙_}
+use mathlib.Core.Path.{_≡_, refl, sym, ap, ap₂, _∙_, subst}
 use mathlib.Core.Bool.{Bool, true, false, _&&_}
 use mathlib.Core.List.{List, [], _∷_}
 use Prim.Native.Nat.{ℕ, zero, suc, _+_, _-_, _%_, _^_, _≤_, _<_}
+use native.Mathlib.Nat.{not-suc-le-zero}
 use native.Mathlib.Numerals.{add-one}
 use native.Mathlib.Omega.{arith}
-use borrow.Author.Tests.{lt-ltb, le-ltb, ltb-true, ltb-false, le-leb, lt-leb, leb-true, leb-false}
+use borrow.Author.Tests.{eqb-true, eqb-false, lt-ltb, le-ltb, ltb-true, ltb-false, le-leb, lt-leb, leb-true, leb-false}
 use lib.Bits.{bitOr, bitAnd, or-lt, or-add-and, and-le-l, and-le-r}
-use lib.Dec.{ltb, leb}
-use lib.ListN.{length, getD}
-use lib.IntN.{ℤ, pos, negsuc, natAbs, _-ℤ_}
+use lib.Dec.{eqb, ltb, leb}
+use lib.ListN.{length, getD, List·getD-eq-default}
+use lib.IntN.{ℤ, pos, negsuc, natAbs, _+ℤ_, _-ℤ_}
 use lib.Signed.{_≤ℤ_, _<ℤ_}
 use mir.Syntax.{w64}
 use mir.Val.{SFits, ofZ}
+use Rattle.integers.specs.Sum.{Within}
 use Rattle.integers.specs.Places.{every}
 use Rattle.integers.specs.Checks.{below, within}
-use Rattle.integers.proofs.Parts.{linear, sub, abs, apart, range}
-use Rattle.integers.proofs.Places.{by-test}
+use Rattle.integers.proofs.Parts.{linear, add, sub, abs, apart, range}
+use Rattle.integers.proofs.Places.{by-test, every-tabulate}
+use Rattle.integers.proofs.Ranges.{shifted}
 use Rattle.integers.proofs.Checks.{below-at, below-all}
 use Rattle.rules.specs.Calls.{filmOut}
 use Rattle.messages.proofs.RowLaws.{every-below, every-at}
@@ -105,3 +108,44 @@ below-every t l d =
     (λ e. by-test (every t l)
     (λ q. below-all (length l) (λ i. t (getD l i d)) (λ i h. every-at t l d i h q) ∙ sym q)
     (λ q. e ∙ sym q))
+
+-- ---- the quick test: costs within half the limit
+
+pub half-way : (z : ℤ) → SFits w64 z → (x : ℕ) → x ≡ (ofZ w64 z + 2 ^ 39) % 2 ^ 64 → x < 2 ^ 40 → natAbs z ≤ 2 ^ 39
+half-way (pos n) f x e h = omega linear
+half-way (negsuc n) f x e h = omega linear
+
+pub record Halving (l : List ℤ) (i w : ℕ) : Type 0 where
+  pub inside : i ≤ length l
+  pub told : w < 2 ^ 40 → (j : ℕ) → j < i → natAbs (getD l j (pos 0)) ≤ 2 ^ 39
+
+pub halving-none : (l : List ℤ) → Halving l 0 0
+halving-none l = record { inside = omega arith; told = λ h j g. absurd (not-suc-le-zero g) }
+
+pub halving-more : {l : List ℤ} {i w : ℕ} (v : ℕ) → Halving l i w → i < length l → (v < 2 ^ 40 → natAbs (getD l i (pos 0)) ≤ 2 ^ 39) → Halving l (i + 1) (bitOr w v)
+halving-more {l} {i} {w} v r h e =
+    let s = or-add-and w v in
+    let a = and-le-l w v in
+    let b = and-le-r w v in
+    record {
+      inside = omega arith;
+      told = λ g j k. by-test (eqb j i)
+          (λ t. let q : j ≡ i = eqb-true j i t in subst (λ (n : ℕ). natAbs (getD l n (pos 0)) ≤ 2 ^ 39) (sym q) (e (omega arith)))
+          (λ t. let d : j ≡ i → ⊥ = eqb-false j i t in r .told (omega arith) j (omega arith));
+    }
+
+pub halving-all : {l : List ℤ} {i w : ℕ} → Halving l i w → length l ≤ i → ltb w (2 ^ 40) ≡ true → Within (2 ^ 39) l
+halving-all {l} {i} {w} r h t j =
+    by-test (ltb j (length l))
+    (λ o. let g : j < length l = ltb-true j (length l) o in r .told (ltb-true w (2 ^ 40) t) j (omega arith))
+    (λ o. subst (λ (z : ℤ). natAbs z ≤ 2 ^ 39) (sym (List·getD-eq-default l (pos 0) (ltb-false j (length l) o))) (omega arith))
+
+-- two halves add up to no more than the limit
+pub halves-fit : (f : ℕ → ℤ) (l : List ℤ) → Within (2 ^ 39) l → ((k : ℕ) → natAbs (f k) ≤ 2 ^ 39) → every (within filmOut) (shifted f l) ≡ true
+unfolding within
+halves-fit f l h g =
+    every-tabulate (within filmOut) (length l) (λ i. getD l i (pos 0) +ℤ f i)
+    (λ i _. let x = getD l i (pos 0) in
+    let a = h i in
+    let b = g i in
+    le-leb (natAbs (x +ℤ f i)) filmOut (omega (linear, abs (x +ℤ f i), add x (f i), abs x, abs (f i))))

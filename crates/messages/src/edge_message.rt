@@ -1,5 +1,6 @@
 // Messages between one node's costs and one edge's table: what is given, whether both stay within the limit, and the moves. Document 01, kinds 1 and 2.
 use crate::rows::OUT;
+use crate::rows::all_half;
 use crate::rows::excess;
 use crate::rows::least_of;
 use crate::rows::share_of;
@@ -253,7 +254,7 @@ fn excess_line(line: &[i64], k: usize, by_row: bool, amounts: &[i64; 16]) -> u64
 }
 
 // Whether each cell of an edge's table that receives the amount at its position stays within the limit.
-pub(crate) fn cells_fit(
+fn each_cell_fits(
     cells: &[i64],
     width: usize,
     height: usize,
@@ -275,6 +276,27 @@ pub(crate) fn cells_fit(
         k += 1;
     }
     all < OUT
+}
+
+// The same, at once if no cell and no amount passes half the limit.
+pub(crate) fn cells_fit(
+    cells: &[i64],
+    width: usize,
+    height: usize,
+    by_row: bool,
+    amounts: &[i64; 16],
+) -> bool
+    requires { ⌜ Shape width height (now cells) ⌝ }
+    requires { ⌜ Within filmOut (now cells) ⌝ }
+    requires { ⌜ Within (2 ^ 41) (now amounts) ⌝ }
+    ensures { λ r. ⌜ r ≡ every (within filmOut) (movedCells «by_row» width (now (amounts .entry)) (now (cells .entry))) ⌝ }
+{
+    if all_half(amounts) {
+        if all_half(cells) {
+            return true;
+        }
+    }
+    each_cell_fits(cells, width, height, by_row, amounts)
 }
 
 // Adds an amount to a cost.

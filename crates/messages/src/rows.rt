@@ -2,10 +2,11 @@
 use std::num::wrapping_add_u64;
 use std::num::wrapping_sub_u64;
 ghost use mathlib.Core.Path.{_≡_};
+ghost use mathlib.Core.Bool.{true};
 ghost use Prim.Native.Nat.{_^_, _≤_, _<_};
 ghost use lib.Dec.{ltb};
 ghost use lib.ListN.{length, getD};
-ghost use lib.IntN.{pos, _+ℤ_, _-ℤ_};
+ghost use lib.IntN.{pos, natAbs, _+ℤ_, _-ℤ_};
 ghost use mir.Syntax.{w64};
 ghost use mir.Val.{SFits, ofZ};
 ghost use Rattle.integers.specs.Least.{minℤ, leastFrom, leastOf, without};
@@ -152,6 +153,26 @@ pub(crate) fn all_in_range(costs: &[i64]) -> bool
         i += 1;
     }
     all < OUT
+}
+
+// Below 2^40 only if a cost lies within half the limit.
+fn raised(cost: i64) -> u64
+    ensures { λ r. ⌜ (r < 2 ^ 40 → natAbs cost ≤ 2 ^ 39) ⌝ }
+{
+    wrapping_add_u64(bits_of(cost), 0x80_0000_0000)
+}
+
+// A quick test, which may fail for costs within half the limit as well: if it does not, each cost is, so that two add up to no more than the limit.
+pub(crate) fn all_half(costs: &[i64]) -> bool
+    ensures { λ r. ⌜ (r ≡ true → Within (2 ^ 39) (now (costs .entry))) ⌝ }
+{
+    let mut all = 0;
+    let mut i = 0;
+    while i < costs.len() {
+        all = all | raised(costs[i]);
+        i += 1;
+    }
+    all < 0x100_0000_0000
 }
 
 // What the cost at `k` gives against the others of its row: a share of its distance from the least of them, and 0 with no other.
