@@ -1,6 +1,6 @@
 -- The least of a row as four running minima side by side find it, and one 1st of a distance.
 -- Assumes nothing.
-use mathlib.Core.Path.{_≡_, refl, sym, ap, ap₂, _∙_}
+use mathlib.Core.Path.{_≡_, sym, ap, ap₂, _∙_}
 use mathlib.Core.List.{List, [], _∷_}
 use Prim.Native.Nat.{ℕ, _+_, _≤_, _<_}
 use native.Mathlib.Nat.{not-suc-le-zero}
@@ -12,7 +12,7 @@ use Rattle.integers.specs.Share.{share}
 use Rattle.integers.proofs.Parts.{linear}
 use Rattle.integers.proofs.Share.{share-parts}
 use Rattle.integers.proofs.Order.{le-refl, min-eq-left, min-comm}
-use Rattle.integers.proofs.Least.{min-left-comm, least-step, least-done, least-le-start, least-min}
+use Rattle.integers.proofs.Least.{min-left-comm, least-step, least-min}
 
 min-self : (a : ℤ) → minℤ a a ≡ a
 min-self a = min-eq-left (le-refl a)
