@@ -5,7 +5,7 @@ use mathlib.Core.Bool.{Bool, true, false, cond}
 use mathlib.Core.List.{List, [], _∷_, _++_, map}
 use Prim.Native.Nat.{ℕ, zero, suc, _+_, _-_, _*_, _^_, _/_, _%_, _≤_, _<_}
 use native.Mathlib.Omega.{arith}
-use native.Mathlib.Nat.{mul-le-mul-right, div-lt-iff-lt-mul, div-eq-of-lt-le, mul-add-mod-self-right, mod-eq-of-lt, mod-lt, not-suc-le-zero}
+use native.Mathlib.Nat.{mul-le-mul-right, div-lt-iff-lt-mul, div-eq-of-lt-le, mul-add-mod-self-right, mod-eq-of-lt, mod-lt, not-suc-le-zero, div-add-mod'}
 use borrow.Author.Tests.{ne-eqb, lt-ltb, le-ltb, ltb-true, ltb-false}
 use lib.Dec.{eqb, ltb}
 use lib.ListN.{length, getD, take, drop, replicate, length-map, List·getD-eq-default}
@@ -19,6 +19,7 @@ use Rattle.integers.specs.Places.{tabulate, range, select, every}
 use Rattle.integers.specs.Checks.{below}
 use Rattle.integers.specs.Rows.{part}
 use Rattle.integers.proofs.Parts.{linear, sub, neg, abs}
+use Rattle.integers.proofs.Order.{le-trans, le-antisymm}
 use Rattle.integers.proofs.Least.{least-of-le, le-least}
 use Rattle.integers.proofs.Share.{down-toward, abs-le}
 use Rattle.integers.proofs.Places.{by-test, by-cond, if-true, if-false, range-mem, length-tabulate, getD-tabulate}
@@ -26,9 +27,9 @@ use Rattle.integers.proofs.Ranges.{range-add, range-part, select-none, select-r
 use Rattle.integers.proofs.Rows.{length-part, getD-part, within-part}
 use Rattle.integers.proofs.Checks.{below-ext}
 use Rattle.rules.specs.Calls.{filmOut}
-use Rattle.messages.specs.EdgeMessage.{positionIn, nodeAmounts, edgeAmounts, movedCells, movedLine, Shape, Above, over, columnLeast}
+use Rattle.messages.specs.EdgeMessage.{positionIn, nodeAmounts, edgeAmounts, movedCells, movedLine, Shape, Above, over, rowLeastIn, columnLeast}
 use Rattle.messages.proofs.RowLaws.{least-of-append, least-of-within}
-use Rattle.messages.proofs.OverLaws.{over-at, over-zeros, over-ext, over-again, every-is, below-rows}
+use Rattle.messages.proofs.OverLaws.{length-over, over-at, over-zeros, over-ext, over-again, every-is, below-rows}
 
 -- nothing given yet
 abbrev pub zeros : List ℤ
@@ -120,18 +121,30 @@ least-more f n h =
     let b = length-range 0 n in
     ap leastOf (range-more f n) ∙ least-of-append (map f (range 0 n)) (f n ∷ []) (omega arith)
 
+-- the least of some costs is that of others, of which each is one of them or above one
+least-cover : (m l : List ℤ) (f : ℕ → ℕ) → 0 < length m → 0 < length l → ((k : ℕ) → k < length m → leastOf l ≤ℤ getD m k (pos 0))
+    → ((i : ℕ) → i < length l → (f i < length m) × (getD m (f i) (pos 0) ≤ℤ getD l i (pos 0))) → leastOf m ≡ leastOf l
+least-cover m l f hm hl p q =
+    le-antisymm
+    (le-least-of (leastOf m) l hl (λ i h. le-trans (least-of-le m (f i) (pos 0) (q i h .0)) (q i h .1)))
+    (le-least-of (leastOf l) m hm p)
+
 module _ (w h : ℕ) (l : List ℤ) (s : Shape w h l) where
   -- a row
   pub row-length : (k : ℕ) → k < h → length (part l (k * w) w) ≡ w
   row-length k g = length-part l (k * w) w (omega (arith, row-in k h w g))
 
+  row-order : (k : ℕ) → k < h → leastOf l ≤ℤ leastOf (part l (k * w) w)
+  row-order k g =
+      let n = row-length k g in
+      le-least-of (leastOf l) (part l (k * w) w) (omega (arith, s .wide))
+      (λ i q. let e = getD-part l (k * w) w i (pos 0) (omega arith) in
+      subst (λ (z : ℤ). leastOf l ≤ℤ z) (sym e) (least-of-le l (k * w + i) (pos 0) (omega (arith, row-in k h w g))))
+
   pub row-above : (k : ℕ) → k < h → Within filmOut l → Above (leastOf l) (leastOf (part l (k * w) w))
   row-above k g v =
-      let n = row-length k g in
       record {
-        order = le-least-of (leastOf l) (part l (k * w) w) (omega (arith, s .wide))
-            (λ i q. let e = getD-part l (k * w) w i (pos 0) (omega arith) in
-            subst (λ (z : ℤ). leastOf l ≤ℤ z) (sym e) (least-of-le l (k * w + i) (pos 0) (omega (arith, row-in k h w g))));
+        order = row-order k g;
         least = least-of-within filmOut l v;
         most = least-of-within filmOut (part l (k * w) w) (within-part filmOut (k * w) w l v);
       }
@@ -189,18 +202,64 @@ module _ (w h : ℕ) (l : List ℤ) (s : Shape w h l) where
       ∙ ap negℤ (excess-some (map (λ r. getD l (w * r + k) (pos 0)) (range 0 h)) (leastOf l) r (omega (arith, s .high)))))
       (λ k _ g. excess-none (at false w l k) (leastOf l) r (no-column k g))
 
-  pub column-above : (k : ℕ) → k < w → Within filmOut l → Above (leastOf l) (columnLeast l w h k)
-  column-above k g v =
+  column-order : (k : ℕ) → k < w → leastOf l ≤ℤ columnLeast l w h k
+  column-order k g =
       let f : ℕ → ℤ = (λ r. getD l (w * r + k) (pos 0)) in
       let n = length-map (range 0 h) f in
       let m = length-range 0 h in
+      le-least-of (leastOf l) (map f (range 0 h)) (omega (arith, s .high))
+      (λ i q. let o : i < h = omega arith in
+      subst (λ (z : ℤ). leastOf l ≤ℤ z) (sym (getD-map h f i o)) (let e : w * i + k ≡ i * w + k = omega arith in least-of-le l (w * i + k) (pos 0) (omega (arith, row-within i k o g))))
+
+  pub column-above : (k : ℕ) → k < w → Within filmOut l → Above (leastOf l) (columnLeast l w h k)
+  column-above k g v =
+      let f : ℕ → ℤ = (λ r. getD l (w * r + k) (pos 0)) in
       record {
-        order = le-least-of (leastOf l) (map f (range 0 h)) (omega (arith, s .high))
-            (λ i q. let o : i < h = omega arith in
-            subst (λ (z : ℤ). leastOf l ≤ℤ z) (sym (getD-map h f i o)) (let e : w * i + k ≡ i * w + k = omega arith in least-of-le l (w * i + k) (pos 0) (omega (arith, row-within i k o g))));
+        order = column-order k g;
         least = least-of-within filmOut l v;
         most = least-of-within filmOut (map f (range 0 h)) (within-map filmOut f (range 0 h) (λ i. v (w * i + k)));
       }
+
+  -- the least of all is that of the least of each row, and of each column
+  some : 0 < length l
+  some = omega (arith, row-in 0 h w (s .high), s)
+
+  pub least-rows : leastOf (take h (over (rowLeastIn l w) h zeros)) ≡ leastOf l
+  least-rows =
+      let m = over (rowLeastIn l w) h zeros in
+      let z = length-over (rowLeastIn l w) h zeros in
+      let n : length (take h m) ≡ h = length-take-le h m (omega (arith, s)) in
+      let at : (k : ℕ) → k < h → getD (take h m) k (pos 0) ≡ rowLeastIn l w k = (λ k g. getD-take h m k (pos 0) g ∙ over-at (rowLeastIn l w) h zeros k (omega (arith, s)) g) in
+      least-cover (take h m) l (λ i. i / w) (omega (arith, s)) some
+      (λ k g. let o : k < h = omega arith in subst (λ (x : ℤ). leastOf l ≤ℤ x) (sym (at k o)) (row-order k o))
+      (λ i g. let o : i / w < h = div-lt-iff-lt-mul (s .wide) .1 (omega (arith, s .size)) in
+      let r : i % w < w = mod-lt i (s .wide) in
+      let e : i / w * w + i % w ≡ i = div-add-mod' i w in (
+        omega arith,
+        subst (λ (x : ℤ). x ≤ℤ getD l i (pos 0)) (sym (at (i / w) o))
+            (subst (λ (x : ℤ). rowLeastIn l w (i / w) ≤ℤ x) (getD-part l (i / w * w) w (i % w) (pos 0) r ∙ ap (λ (j : ℕ). getD l j (pos 0)) e)
+            (least-of-le (part l (i / w * w) w) (i % w) (pos 0) (omega (arith, row-length (i / w) o)))),
+      ))
+
+  pub least-columns : leastOf (take w (over (columnLeast l w h) w zeros)) ≡ leastOf l
+  least-columns =
+      let m = over (columnLeast l w h) w zeros in
+      let z = length-over (columnLeast l w h) w zeros in
+      let n : length (take w m) ≡ w = length-take-le w m (omega (arith, s)) in
+      let at : (k : ℕ) → k < w → getD (take w m) k (pos 0) ≡ columnLeast l w h k = (λ k g. getD-take w m k (pos 0) g ∙ over-at (columnLeast l w h) w zeros k (omega (arith, s)) g) in
+      least-cover (take w m) l (λ i. i % w) (omega (arith, s)) some
+      (λ k g. let o : k < w = omega arith in subst (λ (x : ℤ). leastOf l ≤ℤ x) (sym (at k o)) (column-order k o))
+      (λ i g. let o : i / w < h = div-lt-iff-lt-mul (s .wide) .1 (omega (arith, s .size)) in
+      let r : i % w < w = mod-lt i (s .wide) in
+      let f : ℕ → ℤ = (λ r. getD l (w * r + i % w) (pos 0)) in
+      let e : w * (i / w) + i % w ≡ i = omega (arith, div-add-mod' i w) in
+      let u = length-map (range 0 h) f in
+      let v = length-range 0 h in (
+        omega arith,
+        subst (λ (x : ℤ). x ≤ℤ getD l i (pos 0)) (sym (at (i % w) r))
+            (subst (λ (x : ℤ). columnLeast l w h (i % w) ≤ℤ x) (getD-map h f (i / w) o ∙ ap (λ (j : ℕ). getD l j (pos 0)) e)
+            (least-of-le (map f (range 0 h)) (i / w) (pos 0) (omega arith))),
+      ))
 
   -- the least of each column after the first row, and after one row more
   pub first-row : over (λ k. getD (take w l) k (pos 0)) (length (take w l)) zeros ≡ over (columnLeast l w 1) w zeros

@@ -1,5 +1,7 @@
 -- Laws of the code that moves costs.
 pub mod RowLaws
+pub mod ExcessLaws
+pub mod LeastLaws
 pub mod Sight
 pub mod FillLaws
 pub mod OpenLaws

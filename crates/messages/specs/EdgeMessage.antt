@@ -9,6 +9,7 @@ use lib.IntN.{ℤ, pos, negℤ, natAbs, _-ℤ_}
 use lib.Signed.{_≤ℤ_}
 use Rattle.integers.specs.Least.{leastOf}
 use Rattle.integers.specs.Share.{shareDown, excess}
+use Rattle.integers.specs.Rows.{part}
 use Rattle.integers.specs.Places.{tabulate, select, range}
 use Rattle.integers.proofs.Ranges.{shifted}
 use Rattle.rules.specs.Calls.{filmOut}
@@ -57,6 +58,10 @@ over f n l = tabulate (length l) (λ k. cond (ltb k n) (f k) (getD l k (pos 0)))
 -- one row of the table, the k-th, once it has received its amounts: one for all its cells, or one for each column
 abbrev pub movedLine : Bool → ℕ → List ℤ → List ℤ → List ℤ
 movedLine byRow k amounts line = shifted (λ j. getD amounts (cond byRow k j) (pos 0)) line
+
+-- the least of the row k of a table
+abbrev pub rowLeastIn : List ℤ → ℕ → ℕ → ℤ
+rowLeastIn cells width k = leastOf (part cells (k * width) width)
 
 -- the least of the column k of a table of n rows
 abbrev pub columnLeast : List ℤ → ℕ → ℕ → ℕ → ℤ

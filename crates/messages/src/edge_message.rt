@@ -1,11 +1,14 @@
 // Messages between one node's costs and one edge's table: what is given, whether both stay within the limit, and the moves. Document 01, kinds 1 and 2.
-use crate::rows::in_range;
+use crate::rows::OUT;
+use crate::rows::all_half;
+use crate::rows::excess;
 use crate::rows::least_of;
 use crate::rows::share_of;
 use crate::rows::smaller;
 ghost use mathlib.Core.Path.{_≡_};
 ghost use mathlib.Core.Bool.{true, false};
 ghost use Prim.Native.Nat.{ℕ, _^_, _≤_, _<_};
+ghost use lib.Dec.{ltb};
 ghost use lib.ListN.{length, getD, set, replicate};
 ghost use lib.IntN.{pos, negℤ, natAbs, _+ℤ_, _-ℤ_};
 ghost use Rattle.integers.specs.Least.{minℤ};
@@ -17,7 +20,7 @@ ghost use Rattle.integers.proofs.Ranges.{shifted};
 ghost use mir.Syntax.{w64};
 ghost use mir.Val.{SFits};
 ghost use Rattle.rules.specs.Calls.{filmOut};
-ghost use Rattle.messages.specs.EdgeMessage.{nodeAmounts, edgeAmounts, movedRow, movedCells, movedLine, Shape, Above, over, columnLeast};
+ghost use Rattle.messages.specs.EdgeMessage.{nodeAmounts, edgeAmounts, movedRow, movedCells, movedLine, Shape, Above, over, rowLeastIn, columnLeast};
 
 // One r-th of how far a cost is above the least, rounded down.
 fn above(cost: i64, low: i64, share: u8) -> i64
@@ -110,6 +113,23 @@ fn column_least(cells: &[i64], width: usize, height: usize) -> [i64; 16]
     least
 }
 
+// The least of each row of an edge's table.
+fn row_least(cells: &[i64], width: usize, height: usize) -> [i64; 16]
+    requires { ⌜ Shape width height (now cells) ⌝ }
+    ensures { λ r. ⌜ r ≡ over (rowLeastIn (now (cells .entry)) width) height (replicate 16 (pos 0)) ⌝ }
+{
+    let mut least = [0; 16];
+    let mut k = 0;
+    let mut a = 0;
+    while k < height {
+        let b = a + width;
+        least[k] = least_of(&cells[a..b]);
+        a = b;
+        k += 1;
+    }
+    least
+}
+
 // What each column of an edge's table gives.
 fn column_amounts(cells: &[i64], width: usize, height: usize, share: u8) -> [i64; 16]
     requires { ⌜ Shape width height (now cells) ⌝ }
@@ -118,7 +138,7 @@ fn column_amounts(cells: &[i64], width: usize, height: usize, share: u8) -> [i64
     ensures { λ r. ⌜ r ≡ edgeAmounts false width (now (cells .entry)) share ⌝ }
 {
     let mut amounts = column_least(cells, width, height);
-    let low = least_of(cells);
+    let low = least_of(&amounts[..width]);
     turn_all(&mut amounts, width, low, share);
     amounts
 }
@@ -130,16 +150,9 @@ fn row_amounts(cells: &[i64], width: usize, height: usize, share: u8) -> [i64; 1
     requires { ⌜ Within filmOut (now cells) ⌝ }
     ensures { λ r. ⌜ r ≡ edgeAmounts true width (now (cells .entry)) share ⌝ }
 {
-    let low = least_of(cells);
-    let mut amounts = [0; 16];
-    let mut k = 0;
-    let mut a = 0;
-    while k < height {
-        let b = a + width;
-        amounts[k] = turned(least_of(&cells[a..b]), low, share);
-        a = b;
-        k += 1;
-    }
+    let mut amounts = row_least(cells, width, height);
+    let low = least_of(&amounts[..height]);
+    turn_all(&mut amounts, height, low, share);
     amounts
 }
 
@@ -163,20 +176,20 @@ pub(crate) fn edge_amounts(
     }
 }
 
-// Whether a cost that receives an amount stays within the limit.
-fn more_fits(cost: i64, amount: i64) -> bool
+// At least `OUT` if a cost that receives an amount passes the limit.
+fn excess_with(cost: i64, amount: i64) -> u64
     requires { ⌜ (natAbs cost ≤ filmOut) × (natAbs amount ≤ 2 ^ 41) ⌝ }
-    ensures { λ r. ⌜ r ≡ within filmOut (cost +ℤ amount) ⌝ }
+    ensures { λ r. ⌜ ltb r (2 ^ 63) ≡ within filmOut (cost +ℤ amount) ⌝ }
 {
-    in_range(cost + amount)
+    excess(cost + amount)
 }
 
-// Whether a cost that gives an amount does.
-fn less_fits(cost: i64, amount: i64) -> bool
+// At least `OUT` if a cost that gives an amount does.
+fn excess_without(cost: i64, amount: i64) -> u64
     requires { ⌜ (natAbs cost ≤ filmOut) × (natAbs amount ≤ 2 ^ 41) ⌝ }
-    ensures { λ r. ⌜ r ≡ within filmOut (cost +ℤ negℤ amount) ⌝ }
+    ensures { λ r. ⌜ ltb r (2 ^ 63) ≡ within filmOut (cost +ℤ negℤ amount) ⌝ }
 {
-    in_range(cost - amount)
+    excess(cost - amount)
 }
 
 // Whether each of a node's costs that gives its amount stays within the limit.
@@ -186,67 +199,86 @@ pub(crate) fn row_fits(row: &[i64], amounts: &[i64; 16]) -> bool
     requires { ⌜ Within (2 ^ 41) (now amounts) ⌝ }
     ensures { λ r. ⌜ r ≡ every (within filmOut) (movedRow (now (amounts .entry)) (now (row .entry))) ⌝ }
 {
+    let mut all = 0;
     let mut place = 0;
     while place < row.len() {
-        if less_fits(row[place], amounts[place]) {
-            place += 1;
-        } else {
-            return false;
-        }
+        all = all | excess_without(row[place], amounts[place]);
+        place += 1;
     }
-    true
+    all < OUT
 }
 
-// Whether each cell of a row that receives one amount does.
-fn all_fit(line: &[i64], amount: i64) -> bool
+// At least `OUT` if a cell of a row that receives one amount passes the limit.
+fn excess_all(line: &[i64], amount: i64) -> u64
     requires { ⌜ Within filmOut (now line) ⌝ }
     requires { ⌜ natAbs amount ≤ 2 ^ 41 ⌝ }
-    ensures { λ r. ⌜ r ≡ every (within filmOut) (shifted (λ k. amount) (now (line .entry))) ⌝ }
+    ensures { λ r. ⌜ ltb r (2 ^ 63) ≡ every (within filmOut) (shifted (λ k. amount) (now (line .entry))) ⌝ }
 {
+    let mut all = 0;
     let mut k = 0;
     while k < line.len() {
-        if more_fits(line[k], amount) {
-            k += 1;
-        } else {
-            return false;
-        }
+        all = all | excess_with(line[k], amount);
+        k += 1;
     }
-    true
+    all
 }
 
-// Whether each cell of a row that receives the amount at its column does.
-fn each_fits(line: &[i64], amounts: &[i64; 16]) -> bool
+// At least `OUT` if a cell of a row that receives the amount at its column does.
+fn excess_each(line: &[i64], amounts: &[i64; 16]) -> u64
     requires { ⌜ length (now line) ≤ 16 ⌝ }
     requires { ⌜ Within filmOut (now line) ⌝ }
     requires { ⌜ Within (2 ^ 41) (now amounts) ⌝ }
-    ensures { λ r. ⌜ r ≡ every (within filmOut) (shifted (λ k. getD (now (amounts .entry)) k (pos 0)) (now (line .entry))) ⌝ }
+    ensures { λ r. ⌜ ltb r (2 ^ 63) ≡ every (within filmOut) (shifted (λ k. getD (now (amounts .entry)) k (pos 0)) (now (line .entry))) ⌝ }
 {
+    let mut all = 0;
     let mut k = 0;
     while k < line.len() {
-        if more_fits(line[k], amounts[k]) {
-            k += 1;
-        } else {
-            return false;
-        }
+        all = all | excess_with(line[k], amounts[k]);
+        k += 1;
     }
-    true
+    all
 }
 
-// Whether each cell of the k-th row of a table that receives its amount does.
-fn line_fits(line: &[i64], k: usize, by_row: bool, amounts: &[i64; 16]) -> bool
+// At least `OUT` if a cell of the k-th row of a table that receives its amount does.
+fn excess_line(line: &[i64], k: usize, by_row: bool, amounts: &[i64; 16]) -> u64
     requires { ⌜ (length (now line) ≤ 16) × (k < 16) ⌝ }
     requires { ⌜ Within filmOut (now line) ⌝ }
     requires { ⌜ Within (2 ^ 41) (now amounts) ⌝ }
-    ensures { λ r. ⌜ r ≡ every (within filmOut) (movedLine «by_row» k (now (amounts .entry)) (now (line .entry))) ⌝ }
+    ensures { λ r. ⌜ ltb r (2 ^ 63) ≡ every (within filmOut) (movedLine «by_row» k (now (amounts .entry)) (now (line .entry))) ⌝ }
 {
     if by_row {
-        all_fit(line, amounts[k])
+        excess_all(line, amounts[k])
     } else {
-        each_fits(line, amounts)
+        excess_each(line, amounts)
     }
 }
 
-// Whether each cell of an edge's table that receives the amount at its position does.
+// Whether each cell of an edge's table that receives the amount at its position stays within the limit.
+fn each_cell_fits(
+    cells: &[i64],
+    width: usize,
+    height: usize,
+    by_row: bool,
+    amounts: &[i64; 16],
+) -> bool
+    requires { ⌜ Shape width height (now cells) ⌝ }
+    requires { ⌜ Within filmOut (now cells) ⌝ }
+    requires { ⌜ Within (2 ^ 41) (now amounts) ⌝ }
+    ensures { λ r. ⌜ r ≡ every (within filmOut) (movedCells «by_row» width (now (amounts .entry)) (now (cells .entry))) ⌝ }
+{
+    let mut all = 0;
+    let mut k = 0;
+    let mut a = 0;
+    while k < height {
+        let b = a + width;
+        all = all | excess_line(&cells[a..b], k, by_row, amounts);
+        a = b;
+        k += 1;
+    }
+    all < OUT
+}
+
+// The same, at once if no cell and no amount passes half the limit.
 pub(crate) fn cells_fit(
     cells: &[i64],
     width: usize,
@@ -259,18 +291,12 @@ pub(crate) fn cells_fit(
     requires { ⌜ Within (2 ^ 41) (now amounts) ⌝ }
     ensures { λ r. ⌜ r ≡ every (within filmOut) (movedCells «by_row» width (now (amounts .entry)) (now (cells .entry))) ⌝ }
 {
-    let mut k = 0;
-    let mut a = 0;
-    while k < height {
-        let b = a + width;
-        if line_fits(&cells[a..b], k, by_row, amounts) {
-            a = b;
-            k += 1;
-        } else {
-            return false;
+    if all_half(amounts) {
+        if all_half(cells) {
+            return true;
         }
     }
-    true
+    each_cell_fits(cells, width, height, by_row, amounts)
 }
 
 // Adds an amount to a cost.

@@ -1,10 +1,14 @@
 // Rows of costs: the least of a row, a cost's least rival, shares of a distance, and whether costs lie within the limit.
+use std::num::wrapping_add_u64;
+use std::num::wrapping_sub_u64;
 ghost use mathlib.Core.Path.{_≡_};
-ghost use Prim.Native.Nat.{_≤_, _<_};
+ghost use mathlib.Core.Bool.{true};
+ghost use Prim.Native.Nat.{_^_, _≤_, _<_};
+ghost use lib.Dec.{ltb};
 ghost use lib.ListN.{length, getD};
-ghost use lib.IntN.{pos, _+ℤ_, _-ℤ_};
+ghost use lib.IntN.{pos, natAbs, _+ℤ_, _-ℤ_};
 ghost use mir.Syntax.{w64};
-ghost use mir.Val.{SFits};
+ghost use mir.Val.{SFits, ofZ};
 ghost use Rattle.integers.specs.Least.{minℤ, leastFrom, leastOf, without};
 ghost use Rattle.integers.specs.Share.{share, amount};
 ghost use Rattle.integers.specs.Sum.{Within};
@@ -35,25 +39,52 @@ pub(crate) fn minus(a: i64, b: i64) -> i64
     a - b
 }
 
-// The least of `start` and the costs of a row.
-pub(crate) fn least(row: &[i64], start: i64) -> i64
+// The less of a cost of a row and the best so far.
+fn less_at(row: &[i64], i: usize, best: i64) -> i64
+    requires { ⌜ i < length (now row) ⌝ }
+    ensures { λ r. ⌜ r ≡ minℤ (getD (now (row .entry)) i (pos 0)) best ⌝ }
+{
+    smaller(row[i], best)
+}
+
+// The least of `start` and the costs of a row, one after the other.
+fn least_in_turn(row: &[i64], start: i64) -> i64
     ensures { λ r. ⌜ r ≡ leastFrom start (now (row .entry)) ⌝ }
 {
     let mut best = start;
     let mut i = 0;
     while i < row.len() {
-        best = smaller(row[i], best);
+        best = less_at(row, i, best);
         i += 1;
     }
     best
 }
 
-// The least cost of a row.
+// The least of `start` and the costs of a row: four side by side, which wait for each other less, then the rest.
+pub(crate) fn least(row: &[i64], start: i64) -> i64
+    ensures { λ r. ⌜ r ≡ leastFrom start (now (row .entry)) ⌝ }
+{
+    let mut a = start;
+    let mut b = start;
+    let mut c = start;
+    let mut d = start;
+    let mut i = 0;
+    while 3 < row.len() - i {
+        a = less_at(row, i, a);
+        b = less_at(row, i + 1, b);
+        c = less_at(row, i + 2, c);
+        d = less_at(row, i + 3, d);
+        i += 4;
+    }
+    least_in_turn(&row[i..], smaller(smaller(a, b), smaller(c, d)))
+}
+
+// The least cost of a row. That the first counts twice changes nothing.
 pub(crate) fn least_of(row: &[i64]) -> i64
     requires { ⌜ 0 < length (now row) ⌝ }
     ensures { λ r. ⌜ r ≡ leastOf (now (row .entry)) ⌝ }
 {
-    least(&row[1..], row[0])
+    least(row, row[0])
 }
 
 // The least of the other costs of a row.
@@ -68,11 +99,14 @@ pub(crate) fn rival(row: &[i64], k: usize) -> i64
     least(&row[next..], least_of(&row[..k]))
 }
 
-// One r-th of the distance `d`, rounded toward zero.
+// One r-th of the distance `d`, rounded toward zero. Most shares are 1, and a division takes long.
 pub(crate) fn share_of(d: i64, r: u8) -> i64
     requires { ⌜ 1 ≤ r ⌝ }
     ensures { λ p. ⌜ p ≡ share d r ⌝ }
 {
+    if r == 1 {
+        return d;
+    }
     d / (r as i64)
 }
 
@@ -86,19 +120,59 @@ pub(crate) fn in_range(cost: i64) -> bool
     if cost < -LIMIT { false } else { cost <= LIMIT }
 }
 
-// Whether each cost does.
+// The bits of a cost.
+fn bits_of(cost: i64) -> u64
+    ensures { λ r. ⌜ r ≡ ofZ w64 cost ⌝ }
+{
+    if cost < 0 {
+        u64::MAX - ((-1 - cost) as u64)
+    } else {
+        cost as u64
+    }
+}
+
+// From here on the highest bit is set.
+pub(crate) const OUT: u64 = 0x8000_0000_0000_0000;
+
+// At least `OUT` if a cost passes the limit. Joined by `|`, many costs take one test.
+pub(crate) fn excess(cost: i64) -> u64
+    ensures { λ r. ⌜ ltb r (2 ^ 63) ≡ within filmOut cost ⌝ }
+{
+    let bits = bits_of(cost);
+    wrapping_add_u64(bits, LIMIT as u64) | wrapping_sub_u64(LIMIT as u64, bits)
+}
+
+// Whether each cost lies within the limit. It does not stop at the first that does not, so that several are tested at a time.
 pub(crate) fn all_in_range(costs: &[i64]) -> bool
     ensures { λ r. ⌜ r ≡ every (within filmOut) (now (costs .entry)) ⌝ }
 {
+    let mut all = 0;
     let mut i = 0;
     while i < costs.len() {
-        if in_range(costs[i]) {
-            i += 1;
-        } else {
-            return false;
-        }
+        all = all | excess(costs[i]);
+        i += 1;
     }
-    true
+    all < OUT
+}
+
+// Below 2^40 only if a cost lies within half the limit.
+fn raised(cost: i64) -> u64
+    ensures { λ r. ⌜ (r < 2 ^ 40 → natAbs cost ≤ 2 ^ 39) ⌝ }
+{
+    wrapping_add_u64(bits_of(cost), 0x80_0000_0000)
+}
+
+// A quick test, which may fail for costs within half the limit as well: if it does not, each cost is, so that two add up to no more than the limit.
+pub(crate) fn all_half(costs: &[i64]) -> bool
+    ensures { λ r. ⌜ (r ≡ true → Within (2 ^ 39) (now (costs .entry))) ⌝ }
+{
+    let mut all = 0;
+    let mut i = 0;
+    while i < costs.len() {
+        all = all | raised(costs[i]);
+        i += 1;
+    }
+    all < 0x100_0000_0000
 }
 
 // What the cost at `k` gives against the others of its row: a share of its distance from the least of them, and 0 with no other.

@@ -1,122 +1,33 @@
--- `cells_fit` meets its contract: each row is tested in turn.
-use Prim.Native.Nat.{ℕ, _+_, _-_, _*_, _≤_}
-use native.Mathlib.Omega.{arith}
-use mathlib.Core.Path.{_≡_, sym, ap, ap₂, _∙_}
-use mathlib.Core.Bool.{Bool}
-use mathlib.Core.List.{List}
+-- `cells_fit` meets its contract: halves of the limit add up to no more than it, and else each cell is tested.
+use mathlib.Core.Path.{sym}
 use borrow.Author.Needs.{needs}
-use lib.ListN.{length, take, drop}
-use lib.IntN.{ℤ}
+use lib.ListN.{getD}
+use lib.IntN.{pos}
 use denote.Ref.{now}
-use Rattle.integers.specs.Checks.{within}
-use Rattle.integers.specs.Places.{every}
-use Rattle.integers.specs.Rows.{part}
-use Rattle.integers.proofs.Rows.{within-part}
-use Rattle.integers.proofs.Checks.{Tested, tested-none, tested-more, tested-all, below-fails}
-use Rattle.rules.specs.Calls.{filmOut}
-use Rattle.messages.specs.EdgeMessage.{movedLine}
-use Rattle.messages.proofs.EdgeLaws.{row-in, row-length, lines-fit}
+use Rattle.messages.specs.EdgeMessage.{positionIn}
+use Rattle.messages.proofs.ExcessLaws.{halves-fit}
 use Rattle.messages.proofs.edge_message.cells_fit.Statement.{statement}
 use Rattle.messages.proofs.edge_message.cells_fit.Tie as tie
 
-abbrev Inv-loop : tie.InvT-loop
-Inv-loop cells width height by-row amounts k₀ a₀ k a = (a ≡ k * width) × Tested (λ r. every (within filmOut) (movedLine by-row r amounts (part cells (r * width) width))) height k
+all-half-requires : tie.Need-all-half-requires
+all-half-requires c κs = search needs
 
-abbrev μ-loop : tie.MeasureT-loop
-μ-loop cells width height by-row amounts k₀ a₀ k a = height - k
+all-half-requires-2 : tie.Need-all-half-requires-2
+all-half-requires-2 c κs = search needs
 
--- the row of this turn: it ends within the table, and it is the row k
-module _ (c : tie.In-loop Inv-loop μ-loop) where
-  abbrev q : tie.Start Inv-loop μ-loop
-  q = c .before .before
-
-  end : c .before .loop .a + q .args .width ≤ length (now (q .args .cells))
-  end = let p = c .before in omega (arith, row-in (p .loop .k) (q .args .height) (q .args .width) (c .loop-test .taken), q .pre .0, p .loop .inv)
-
-  line : take (c .before .loop .a + q .args .width - c .before .loop .a) (drop (c .before .loop .a) (now (q .args .cells))) ≡ part (now (q .args .cells)) (c .before .loop .k * q .args .width) (q .args .width)
-  line =
-      let e : c .before .loop .a + q .args .width - c .before .loop .a ≡ q .args .width = omega arith in
-      ap₂ (λ (n a : ℕ). take n (drop a (now (q .args .cells)))) e (c .before .loop .inv .0)
-
-  long : length (part (now (q .args .cells)) (c .before .loop .k * q .args .width) (q .args .width)) ≡ q .args .width
-  long = row-length (q .args .width) (q .args .height) (now (q .args .cells)) (q .pre .0) (c .before .loop .k) (c .loop-test .taken)
-
--- the test of a row, and what the call says of it
-abbrev t : tie.Start Inv-loop μ-loop → ℕ → Bool
-t q r = every (within filmOut) (movedLine (q .args .by-row) r (now (q .args .amounts)) (part (now (q .args .cells)) (r * q .args .width) (q .args .width)))
-
-answer : (c : tie.After-line-fits Inv-loop μ-loop) → t (c .before .before .before .before) (c .before .before .before .loop .k) ≡ c .line-fits .result
-answer c =
-    let p = c .before .before .before in
-    let q = p .before in
-    sym (c .line-fits .ensures ∙ ap (λ (m : List ℤ). every (within filmOut) (movedLine (q .args .by-row) (p .loop .k) (now (q .args .amounts)) m)) (line (c .before .before)))
-
-loop-holds : tie.Need-loop-holds Inv-loop μ-loop
-loop-holds c = (omega arith, tested-none _ _)
-
-add-b : tie.Need-add-b Inv-loop μ-loop
-add-b c = omega (arith, end c)
-
-mul-line-fits : tie.Need-mul-line-fits Inv-loop μ-loop
-mul-line-fits c = omega (arith, end c)
-
-sub-line-fits : tie.Need-sub-line-fits Inv-loop μ-loop
-sub-line-fits c = search needs
-
-part-line-fits-start : tie.Need-part-line-fits-start Inv-loop μ-loop
-part-line-fits-start c = search needs
-
-part-line-fits-end : tie.Need-part-line-fits-end Inv-loop μ-loop
-part-line-fits-end c = omega (arith, end c)
-
-line-fits-requires : tie.Need-line-fits-requires Inv-loop μ-loop
-line-fits-requires c κs =
-    let q = c .before .before .before in
-    let p = c .before .before in
-    rw (line (c .before)) (
-      (omega (arith, long (c .before), q .pre .0), omega (arith, q .pre .0, c .before .loop-test .taken)),
-      (within-part filmOut (p .loop .k * q .args .width) (q .args .width) (now (q .args .cells)) (q .pre .1 .0), q .pre .1 .1),
-    )
-
-add-k : tie.Need-add-k Inv-loop μ-loop
-add-k c = search needs
-
-loop-less : tie.Need-loop-less Inv-loop μ-loop
-loop-less c = search needs
-
-loop-again : tie.Need-loop-again Inv-loop μ-loop
-loop-again c =
-    let p = c .before .before .before .before in
-    (omega arith, tested-more (p .loop .inv .1) (c .before .before .before .loop-test .taken) (answer (c .before) ∙ c .if1 .taken))
-
-returns : tie.Need-returns Inv-loop μ-loop
+returns : tie.Need-returns
 returns c =
-    let p = c .before .before .before .before in
-    let q = p .before in
-    sym (lines-fit (q .args .width) (q .args .height) (now (q .args .cells)) (q .pre .0) (within filmOut) (q .args .by-row) (now (q .args .amounts))
-    ∙ below-fails (q .args .height) (t q) (p .loop .k) (c .before .before .before .loop-test .taken) (answer (c .before) ∙ c .if1 .left))
+    let b = c .before .before .before in
+    let a = b .before .before .args in
+    let v = b .all-half .ensures (c .before .before .if1 .taken) in
+    sym (halves-fit (λ j. getD (now (a .amounts)) (positionIn (a .by-row) (a .width) j) (pos 0)) (now (a .cells)) (c .before .all-half2 .ensures (c .if2 .taken))
+    (λ j. v (positionIn (a .by-row) (a .width) j)))
 
-returns-2 : tie.Need-returns-2 Inv-loop μ-loop
-returns-2 c =
-    let q = c .before .before in
-    sym (lines-fit (q .args .width) (q .args .height) (now (q .args .cells)) (q .pre .0) (within filmOut) (q .args .by-row) (now (q .args .amounts))
-    ∙ tested-all (c .before .loop .inv .1) (c .loop-test .left))
+each-cell-fits-requires : tie.Need-each-cell-fits-requires
+each-cell-fits-requires c κs = search needs
+
+returns-2 : tie.Need-returns-2
+returns-2 c = search needs
 
 pub cells-fit-spec : {M : Type 1} → statement M
-cells-fit-spec =
-    tie.close
-    (tie.spec
-    Inv-loop
-    μ-loop
-    loop-holds
-    add-b
-    mul-line-fits
-    sub-line-fits
-    part-line-fits-start
-    part-line-fits-end
-    line-fits-requires
-    add-k
-    loop-less
-    loop-again
-    returns
-    returns-2)
+cells-fit-spec = tie.close (tie.spec all-half-requires all-half-requires-2 returns each-cell-fits-requires returns-2)

@@ -1,136 +1,84 @@
--- `row_amounts` meets its contract. The loop's invariant: `a` is where the row k begins, the first k places hold what those rows give, and the others 0.
-use Prim.Native.Nat.{ℕ, _+_, _-_, _*_, _≤_}
+-- `row_amounts` meets its contract: the least of each row is replaced by what it gives.
 use native.Mathlib.Omega.{arith}
-use mathlib.Core.Path.{_≡_, ap, ap₂, _∙_}
+use mathlib.Core.Path.{_≡_, sym, ap, ap₂, _∙_}
 use mathlib.Core.List.{List}
 use borrow.Author.Needs.{needs}
-use lib.ListN.{length, set, take, drop}
-use lib.IntN.{ℤ, negℤ, _-ℤ_}
+use lib.ListN.{length, getD, take}
+use lib.Seq.{length-take-le}
+use lib.IntN.{ℤ, pos, negℤ, _-ℤ_}
 use denote.Ref.{now}
 use mir.Syntax.{w64}
 use mir.Val.{toZ, ofZ}
 use Rattle.integers.specs.Least.{leastOf}
 use Rattle.integers.specs.Share.{shareDown}
-use Rattle.integers.specs.Rows.{part}
 use Rattle.integers.proofs.Bits.{same}
-use Rattle.messages.specs.EdgeMessage.{over}
-use Rattle.messages.proofs.OverLaws.{over-none, over-more}
-use Rattle.messages.proofs.EdgeLaws.{zeros, rowGiven, row-in, row-length, row-above, edge-rows}
+use Rattle.messages.specs.EdgeMessage.{rowLeastIn, over}
+use Rattle.messages.proofs.OverLaws.{length-over, over-at, over-again}
+use Rattle.messages.proofs.EdgeLaws.{zeros, rowGiven, row-above, edge-rows, least-rows}
 use Rattle.messages.proofs.edge_message.row_amounts.Statement.{statement}
 use Rattle.messages.proofs.edge_message.row_amounts.Tie as tie
 
-abbrev Inv-loop : tie.InvT-loop
-Inv-loop cells width height share low amounts₀ k₀ a₀ amounts k a = (k ≤ height) × (a ≡ k * width) × (amounts ≡ over (rowGiven cells width share) k zeros)
+-- the least of each row: as many as there are rows, and the rest of 16 places
+module _ (c : tie.After-row-least) where
+  abbrev q : tie.Start
+  q = c .before
 
-abbrev μ-loop : tie.MeasureT-loop
-μ-loop cells width height share low amounts₀ k₀ a₀ amounts k a = height - k
+  long : length (c .row-least .result) ≡ 16
+  long = ap length (c .row-least .ensures) ∙ length-over (rowLeastIn (now (c .before .args .cells)) (c .before .args .width)) (q .args .height) zeros
 
--- what a row gives, and the least of all read back
-abbrev f : tie.Start Inv-loop μ-loop → ℕ → ℤ
-f q = rowGiven (now (q .args .cells)) (q .args .width) (q .args .share)
+  first : length (take (q .args .height) (c .row-least .result)) ≡ q .args .height
+  first = length-take-le (q .args .height) (c .row-least .result) (omega (arith, long, q .pre .0))
 
-low : (c : tie.After-least-of Inv-loop μ-loop) → toZ w64 (ofZ w64 (c .least-of .result)) ≡ leastOf (now (c .before .args .cells))
-low c = same (c .least-of .result) (c .least-of .ok) ∙ c .least-of .ensures
+-- the least of all read back
+low : (c : tie.After-least-of) → toZ w64 (ofZ w64 (c .least-of .result)) ≡ leastOf (now (c .before .before .before .args .cells))
+low c =
+    let b = c .before .before in
+    let q = b .before in
+    same (c .least-of .result) (c .least-of .ok) ∙ c .least-of .ensures ∙ ap (λ (m : List ℤ). leastOf (take (q .args .height) m)) (b .row-least .ensures)
+    ∙ least-rows (q .args .width) (q .args .height) (now (q .args .cells)) (q .pre .0)
 
--- the row of this turn: it ends within the table, and it is the row k
-module _ (c : tie.In-loop Inv-loop μ-loop) where
-  abbrev q : tie.Start Inv-loop μ-loop
-  q = c .before .before .before
+row-least-requires : tie.Need-row-least-requires
+row-least-requires c κs = search needs
 
-  end : c .before .loop .a + q .args .width ≤ length (now (q .args .cells))
-  end = let p = c .before in omega (arith, row-in (p .loop .k) (q .args .height) (q .args .width) (c .loop-test .taken), q .pre .0, p .loop .inv)
+array-share-prefix-amounts : tie.Need-array-share-prefix-amounts
+array-share-prefix-amounts c = omega (arith, long c, c .before .pre .0)
 
-  line : take (c .before .loop .a + q .args .width - c .before .loop .a) (drop (c .before .loop .a) (now (q .args .cells))) ≡ part (now (q .args .cells)) (c .before .loop .k * q .args .width) (q .args .width)
-  line =
-      let e : c .before .loop .a + q .args .width - c .before .loop .a ≡ q .args .width = omega arith in
-      ap₂ (λ (n a : ℕ). take n (drop a (now (q .args .cells)))) e (c .before .loop .inv .1)
+slice-aggregate-least-of : tie.Need-slice-aggregate-least-of
+slice-aggregate-least-of c = sym (first (c .before))
 
-  long : length (part (now (q .args .cells)) (c .before .loop .k * q .args .width) (q .args .width)) ≡ q .args .width
-  long = row-length (q .args .width) (q .args .height) (now (q .args .cells)) (q .pre .0) (c .before .loop .k) (c .loop-test .taken)
+least-of-requires : tie.Need-least-of-requires
+least-of-requires c κs = let q = c .before .before in omega (arith, first (c .before), q .pre .0)
 
-low-row : (c : tie.After-least-of2 Inv-loop μ-loop) → toZ w64 (ofZ w64 (c .least-of2 .result))
-    ≡ leastOf (part (now (c .before .before .before .before .before .args .cells)) (c .before .before .before .loop .k * c .before .before .before .before .before .args .width) (c .before .before .before .before .before .args .width))
-low-row c = same (c .least-of2 .result) (c .least-of2 .ok) ∙ c .least-of2 .ensures ∙ ap leastOf (line (c .before .before))
-
-least-of-requires : tie.Need-least-of-requires Inv-loop μ-loop
-least-of-requires c κs = omega (arith, row-in 0 (c .args .height) (c .args .width) (c .pre .0 .high), c .pre .0)
-
-loop-holds : tie.Need-loop-holds Inv-loop μ-loop
-loop-holds c = (omega arith, omega arith, over-none (f (c .before)) zeros)
-
-add-b : tie.Need-add-b Inv-loop μ-loop
-add-b c = omega (arith, end c)
-
-mul-least-of : tie.Need-mul-least-of Inv-loop μ-loop
-mul-least-of c = omega (arith, end c)
-
-sub-least-of : tie.Need-sub-least-of Inv-loop μ-loop
-sub-least-of c = search needs
-
-part-least-of-start : tie.Need-part-least-of-start Inv-loop μ-loop
-part-least-of-start c = search needs
-
-part-least-of-end : tie.Need-part-least-of-end Inv-loop μ-loop
-part-least-of-end c = omega (arith, end c)
-
-least-of-requires-2 : tie.Need-least-of-requires-2 Inv-loop μ-loop
-least-of-requires-2 c κs = rw (line (c .before)) (omega (arith, long (c .before), c .before .before .before .before .pre .0))
-
-turned-requires : tie.Need-turned-requires Inv-loop μ-loop
-turned-requires c κs =
-    let p = c .before .before .before in
-    let q = p .before .before in
+turn-all-requires : tie.Need-turn-all-requires
+turn-all-requires c κs =
+    let b = c .before .before .before in
+    let q = b .before in
     let l = now (q .args .cells) in
-    (rw (low (p .before), low-row c) (row-above (q .args .width) (q .args .height) l (q .pre .0) (p .loop .k) (c .before .before .loop-test .taken) (q .pre .1 .1)), q .pre .1 .0)
-
-mul-amounts : tie.Need-mul-amounts Inv-loop μ-loop
-mul-amounts c = search needs
-
-array-set-from-amounts : tie.Need-array-set-from-amounts Inv-loop μ-loop
-array-set-from-amounts c = let q = c .before .before .before .before .before .before in omega (arith, q .pre .0)
-
-add-k : tie.Need-add-k Inv-loop μ-loop
-add-k c = search needs
-
-loop-less : tie.Need-loop-less Inv-loop μ-loop
-loop-less c = search needs
-
-loop-again : tie.Need-loop-again Inv-loop μ-loop
-loop-again c =
-    let p = c .before .before .before .before in
-    let q = p .before .before in
-    let k = p .loop .k in (
-      omega arith,
-      omega arith,
-      ap (set (p .loop .amounts) k) (same (c .turned .result) (c .turned .ok) ∙ c .turned .ensures ∙ ap₂ (λ (x b : ℤ). negℤ (shareDown (x -ℤ b) (q .args .share))) (low-row (c .before)) (low (p .before)))
-          ∙ ap (λ (m : List ℤ). set m k (f q k)) (p .loop .inv .2) ∙ over-more (f q) k zeros (omega (arith, q .pre .0)),
+    let w = q .args .width in
+    let h = q .args .height in
+    let s = q .pre .0 in (
+      (s .low, long b),
+      (
+        q .pre .1 .0,
+        λ k g. rw (low (c .before), ap (λ (m : List ℤ). getD m k (pos 0)) (b .row-least .ensures) ∙ over-at (rowLeastIn l w) h zeros k (omega (arith, s)) g) (row-above w h l s k g (q .pre .1 .1)),
+      ),
     )
 
-returns : tie.Need-returns Inv-loop μ-loop
+returns : tie.Need-returns
 returns c =
-    let p = c .before in
-    let q = p .before .before in
-    let e : p .loop .k ≡ q .args .height = omega arith in
-    p .loop .inv .2 ∙ ap (λ (n : ℕ). over (f q) n zeros) e ∙ edge-rows (q .args .width) (q .args .height) (now (q .args .cells)) (q .pre .0) (q .args .share)
+    let b = c .before .before .before .before in
+    let q = b .before in
+    let l = now (q .args .cells) in
+    let w = q .args .width in
+    let h = q .args .height in
+    let r = q .args .share in
+    let o = over (rowLeastIn l w) h zeros in
+    c .turn-all .ensures
+    ∙ ap₂ (λ (z : ℤ) (m : List ℤ). over (λ k. negℤ (shareDown (getD m k (pos 0) -ℤ z) r)) h m) (low (c .before .before)) (b .row-least .ensures)
+    ∙ over-again (rowLeastIn l w) (λ k. negℤ (shareDown (getD o k (pos 0) -ℤ leastOf l) r)) (rowGiven l w r) h zeros
+    (λ k g z. ap (λ (x : ℤ). negℤ (shareDown (x -ℤ leastOf l) r)) (over-at (rowLeastIn l w) h zeros k z g))
+    ∙ edge-rows w h l (q .pre .0) r
 
 pub row-amounts-spec : {M : Type 1} → statement M
 row-amounts-spec =
-    tie.close
-    (tie.spec
-    Inv-loop
-    μ-loop
-    least-of-requires
-    loop-holds
-    add-b
-    mul-least-of
-    sub-least-of
-    part-least-of-start
-    part-least-of-end
-    least-of-requires-2
-    turned-requires
-    mul-amounts
-    array-set-from-amounts
-    add-k
-    loop-less
-    loop-again
-    returns)
+    tie.close (tie.spec row-least-requires array-share-prefix-amounts slice-aggregate-least-of least-of-requires turn-all-requires returns)

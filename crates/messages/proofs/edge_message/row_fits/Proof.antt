@@ -1,57 +1,58 @@
--- `row_fits` meets its contract: each cost is tested in turn.
-use Prim.Native.Nat.{ℕ, _-_}
+-- `row_fits` meets its contract: what each cost gives is joined, so the test at the end is that of each cost.
+use Prim.Native.Nat.{ℕ, _-_, _^_}
 use mathlib.Core.Path.{_≡_, sym, ap₂, _∙_}
 use borrow.Author.Needs.{needs}
+use lib.Dec.{ltb}
 use lib.ListN.{length, getD}
 use lib.IntN.{ℤ, pos, negℤ, _+ℤ_}
 use denote.Ref.{now}
 use Rattle.integers.specs.Checks.{within}
 use Rattle.integers.proofs.Bits.{same}
-use Rattle.integers.proofs.Checks.{Tested, tested-none, tested-more, tested-all, below-fails}
 use Rattle.rules.specs.Calls.{filmOut}
 use Rattle.messages.proofs.OverLaws.{every-is}
+use Rattle.messages.proofs.ExcessLaws.{Joining, joining-none, joining-more, joining-all}
 use Rattle.messages.proofs.edge_message.row_fits.Statement.{statement}
 use Rattle.messages.proofs.edge_message.row_fits.Tie as tie
 
 abbrev Inv-loop : tie.InvT-loop
-Inv-loop row amounts k₀ k = Tested (λ j. within filmOut (getD row j (pos 0) +ℤ negℤ (getD amounts j (pos 0)))) (length row) k
+Inv-loop row amounts all₀ k₀ all k = Joining (λ j. within filmOut (getD row j (pos 0) +ℤ negℤ (getD amounts j (pos 0)))) (length row) k all
 
 abbrev μ-loop : tie.MeasureT-loop
-μ-loop row amounts k₀ k = length row - k
+μ-loop row amounts all₀ k₀ all k = length row - k
 
 -- a cost once it has its amount, and what the call says of it
 abbrev f : tie.Start Inv-loop μ-loop → ℕ → ℤ
 f q j = getD (now (q .args .row)) j (pos 0) +ℤ negℤ (getD (now (q .args .amounts)) j (pos 0))
 
-answer : (c : tie.After-less-fits Inv-loop μ-loop) → within filmOut (f (c .before .before .before .before .before) (c .before .before .before .before .loop .place)) ≡ c .less-fits .result
+answer : (c : tie.After-excess-without Inv-loop μ-loop) → ltb (c .excess-without .result) (2 ^ 63) ≡ within filmOut (f (c .before .before .before .before .before) (c .before .before .before .before .loop .place))
 answer c =
     let p = c .before .before .before .before in
     let q = p .before in
     let k = p .loop .place in
-    sym (c .less-fits .ensures
-    ∙ ap₂ (λ (x y : ℤ). within filmOut (x +ℤ negℤ y)) (same (getD (now (q .args .row)) k (pos 0)) (c .before .before .less-fits-arg .given)) (same (getD (now (q .args .amounts)) k (pos 0)) (c .before .less-fits-arg2 .given)))
+    c .excess-without .ensures
+    ∙ ap₂ (λ (x y : ℤ). within filmOut (x +ℤ negℤ y)) (same (getD (now (q .args .row)) k (pos 0)) (c .before .before .excess-without-arg .given)) (same (getD (now (q .args .amounts)) k (pos 0)) (c .before .excess-without-arg2 .given))
 
 loop-holds : tie.Need-loop-holds Inv-loop μ-loop
-loop-holds c = tested-none _ _
+loop-holds c = joining-none _ _
 
-mul-less-fits : tie.Need-mul-less-fits Inv-loop μ-loop
-mul-less-fits c = search needs
+mul-excess-without : tie.Need-mul-excess-without Inv-loop μ-loop
+mul-excess-without c = search needs
 
-shared-slice-copy-out-less-fits : tie.Need-shared-slice-copy-out-less-fits Inv-loop μ-loop
-shared-slice-copy-out-less-fits c = search needs
+shared-slice-copy-out-excess-without : tie.Need-shared-slice-copy-out-excess-without Inv-loop μ-loop
+shared-slice-copy-out-excess-without c = search needs
 
-mul-less-fits-2 : tie.Need-mul-less-fits-2 Inv-loop μ-loop
-mul-less-fits-2 c = search needs
+mul-excess-without-2 : tie.Need-mul-excess-without-2 Inv-loop μ-loop
+mul-excess-without-2 c = search needs
 
-element-copy-out-less-fits : tie.Need-element-copy-out-less-fits Inv-loop μ-loop
-element-copy-out-less-fits c = search needs
+element-copy-out-excess-without : tie.Need-element-copy-out-excess-without Inv-loop μ-loop
+element-copy-out-excess-without c = search needs
 
-less-fits-requires : tie.Need-less-fits-requires Inv-loop μ-loop
-less-fits-requires c κs =
+excess-without-requires : tie.Need-excess-without-requires Inv-loop μ-loop
+excess-without-requires c κs =
     let p = c .before .before .before in
     let q = p .before in
     let k = p .loop .place in
-    (rw (same (getD (now (q .args .row)) k (pos 0)) (c .before .less-fits-arg .given)) (q .pre .1 .0 k), rw (same (getD (now (q .args .amounts)) k (pos 0)) (c .less-fits-arg2 .given)) (q .pre .1 .1 k))
+    (rw (same (getD (now (q .args .row)) k (pos 0)) (c .before .excess-without-arg .given)) (q .pre .1 .0 k), rw (same (getD (now (q .args .amounts)) k (pos 0)) (c .excess-without-arg2 .given)) (q .pre .1 .1 k))
 
 add-place : tie.Need-add-place Inv-loop μ-loop
 add-place c = search needs
@@ -60,19 +61,13 @@ loop-less : tie.Need-loop-less Inv-loop μ-loop
 loop-less c = search needs
 
 loop-again : tie.Need-loop-again Inv-loop μ-loop
-loop-again c = let p = c .before .before .before .before .before in tested-more (p .loop .inv) (c .before .before .before .before .loop-test .taken) (answer (c .before) ∙ c .if1 .taken)
+loop-again c = let p = c .before .before .before .before in joining-more (c .excess-without .result) (p .loop .inv) (c .before .before .before .loop-test .taken) (answer c)
 
 returns : tie.Need-returns Inv-loop μ-loop
 returns c =
-    let p = c .before .before .before .before .before in
-    let l = now (p .before .args .row) in
-    sym (every-is (within filmOut) (length l) (f (p .before)) ∙ below-fails (length l) (λ j. within filmOut (f (p .before) j)) (p .loop .place) (c .before .before .before .before .loop-test .taken) (answer (c .before) ∙ c .if1 .left))
-
-returns-2 : tie.Need-returns-2 Inv-loop μ-loop
-returns-2 c =
     let q = c .before .before in
     let l = now (q .args .row) in
-    sym (every-is (within filmOut) (length l) (f q) ∙ tested-all (c .before .loop .inv) (c .loop-test .left))
+    joining-all (c .before .loop .inv) (c .loop-test .left) ∙ sym (every-is (within filmOut) (length l) (f q))
 
 pub row-fits-spec : {M : Type 1} → statement M
 row-fits-spec =
@@ -81,13 +76,12 @@ row-fits-spec =
     Inv-loop
     μ-loop
     loop-holds
-    mul-less-fits
-    shared-slice-copy-out-less-fits
-    mul-less-fits-2
-    element-copy-out-less-fits
-    less-fits-requires
+    mul-excess-without
+    shared-slice-copy-out-excess-without
+    mul-excess-without-2
+    element-copy-out-excess-without
+    excess-without-requires
     add-place
     loop-less
     loop-again
-    returns
-    returns-2)
+    returns)

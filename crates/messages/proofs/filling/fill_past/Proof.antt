@@ -1,16 +1,16 @@
--- `fill_prices` meets its contract.
-use Prim.Native.Nat.{ℕ, _+_, _-_, _*_}
+-- `fill_past` meets its contract.
+use Prim.Native.Nat.{_+_, _-_, _*_}
 use native.Mathlib.Omega.{arith}
-use mathlib.Core.Path.{ap, sym, _∙_}
+use mathlib.Core.Path.{_∙_}
 use borrow.Author.Needs.{needs}
-use lib.ListN.{length, set}
-use lib.IntN.{ℤ, pos}
+use lib.ListN.{length}
+use lib.IntN.{pos}
 use denote.Ref.{now}
 use Rattle.integers.proofs.Bits.{same}
 use Rattle.instance.specs.Bytes.{priceAt}
 use Rattle.messages.proofs.FillLaws.{Filling, fill-none, fill-more, fill-all}
-use Rattle.messages.proofs.filling.fill_prices.Statement.{statement}
-use Rattle.messages.proofs.filling.fill_prices.Tie as tie
+use Rattle.messages.proofs.filling.fill_past.Statement.{statement}
+use Rattle.messages.proofs.filling.fill_past.Tie as tie
 
 abbrev Inv-loop : tie.InvT-loop
 Inv-loop sheet at costs₀ i₀ costs i = Filling (λ k. priceAt sheet (at + 4 * k)) costs₀ costs i
@@ -56,8 +56,8 @@ returns c =
     let a = c .before .before .before .args in
     fill-all (λ k. priceAt (now (a .sheet)) (a .at + 4 * k)) (c .before .loop .inv) (omega arith)
 
-pub fill-prices-spec : {M : Type 1} → statement M
-fill-prices-spec =
+pub fill-past-spec : {M : Type 1} → statement M
+fill-past-spec =
     tie.close
     (tie.spec
     Inv-loop

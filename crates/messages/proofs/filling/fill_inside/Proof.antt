@@ -1,0 +1,75 @@
+-- `fill_inside` meets its contract: the four bytes of each price are there.
+use Prim.Native.Nat.{_+_, _-_, _*_}
+use native.Mathlib.Omega.{arith}
+use mathlib.Core.Path.{_∙_}
+use borrow.Author.Needs.{needs}
+use lib.ListN.{length}
+use lib.IntN.{pos}
+use denote.Ref.{now}
+use Rattle.integers.proofs.Bits.{same}
+use Rattle.instance.specs.Bytes.{priceAt}
+use Rattle.messages.proofs.FillLaws.{Filling, fill-none, fill-more, fill-all}
+use Rattle.messages.proofs.filling.fill_inside.Statement.{statement}
+use Rattle.messages.proofs.filling.fill_inside.Tie as tie
+
+abbrev Inv-loop : tie.InvT-loop
+Inv-loop sheet at costs₀ i₀ costs i = Filling (λ k. priceAt sheet (at + 4 * k)) costs₀ costs i
+
+abbrev μ-loop : tie.MeasureT-loop
+μ-loop sheet at costs₀ i₀ costs i = length costs₀ - i
+
+loop-holds : tie.Need-loop-holds Inv-loop μ-loop
+loop-holds c = fill-none _ _
+
+mul-price : tie.Need-mul-price Inv-loop μ-loop
+mul-price c = omega arith
+
+add-price : tie.Need-add-price Inv-loop μ-loop
+add-price c = omega arith
+
+price-requires : tie.Need-price-requires Inv-loop μ-loop
+price-requires c κs = search needs
+
+mul-t9 : tie.Need-mul-t9 Inv-loop μ-loop
+mul-t9 c = omega arith
+
+slice-set-from-costs : tie.Need-slice-set-from-costs Inv-loop μ-loop
+slice-set-from-costs c = omega arith
+
+add-i : tie.Need-add-i Inv-loop μ-loop
+add-i c = omega arith
+
+loop-less : tie.Need-loop-less Inv-loop μ-loop
+loop-less c = omega arith
+
+loop-again : tie.Need-loop-again Inv-loop μ-loop
+loop-again c =
+    let q = c .before .before in
+    let a = q .before .before .args in
+    rw (same (c .price .result) (c .price .ok) ∙ c .price .ensures) (fill-more (λ k. priceAt (now (a .sheet)) (a .at + 4 * k)) (pos 0) (q .loop .inv) (omega arith))
+
+same-length : tie.Need-same-length Inv-loop μ-loop
+same-length c = search needs
+
+returns : tie.Need-returns Inv-loop μ-loop
+returns c =
+    let a = c .before .before .before .args in
+    fill-all (λ k. priceAt (now (a .sheet)) (a .at + 4 * k)) (c .before .loop .inv) (omega arith)
+
+pub fill-inside-spec : {M : Type 1} → statement M
+fill-inside-spec =
+    tie.close
+    (tie.spec
+    Inv-loop
+    μ-loop
+    loop-holds
+    mul-price
+    add-price
+    price-requires
+    mul-t9
+    slice-set-from-costs
+    add-i
+    loop-less
+    loop-again
+    same-length
+    returns)
