@@ -56,11 +56,7 @@ fn refused_cases() {
     show_files(b"a part of a record", b"0018.sheet", b"0018.records");
     show_files(b"no file, no records", b"missing", b"missing");
     show_files(b"no file", b"missing", b"sample.records");
-    show_files(b"a count", b"0001.sheet", b"0001.records");
-    show_files(b"a length", b"0043.sheet", b"0043.records");
-    show_files(b"a degree", b"0004.sheet", b"0004.records");
     show_files(b"a label", b"0021.sheet", b"0021.records");
-    show_files(b"an edge", b"0065.sheet", b"0065.records");
 }
 
 fn zero_sheet(name: &[u8], length: isize) {
