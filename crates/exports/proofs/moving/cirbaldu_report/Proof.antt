@@ -1,0 +1,61 @@
+-- `cirbaldu_report` meets its contract.
+use borrow.Author.Needs.{needs}
+use Rattle.exports.proofs.moving.cirbaldu_report.Statement.{statement}
+use Rattle.exports.proofs.moving.cirbaldu_report.Tie as tie
+
+report-requires : tie.Need-report-requires
+report-requires c κs = search needs
+
+enum-known-told : tie.Need-enum-known-told
+enum-known-told c = search needs
+
+store-costs-requires : tie.Need-store-costs-requires
+store-costs-requires c κs = search needs
+
+enum-known-told-2 : tie.Need-enum-known-told-2
+enum-known-told-2 c = search needs
+
+store-costs-requires-2 : tie.Need-store-costs-requires-2
+store-costs-requires-2 c κs = search needs
+
+enum-known-told-3 : tie.Need-enum-known-told-3
+enum-known-told-3 c = search needs
+
+store-costs-requires-3 : tie.Need-store-costs-requires-3
+store-costs-requires-3 c κs = search needs
+
+same-length : tie.Need-same-length
+same-length c = search needs
+
+returns : tie.Need-returns
+returns c = ?
+
+same-length-2 : tie.Need-same-length-2
+same-length-2 c = search needs
+
+returns-2 : tie.Need-returns-2
+returns-2 c = ?
+
+same-length-3 : tie.Need-same-length-3
+same-length-3 c = search needs
+
+returns-3 : tie.Need-returns-3
+returns-3 c = ?
+
+pub cirbaldu-report-spec : {M : Type 1} → statement M
+cirbaldu-report-spec =
+    tie.close
+    (tie.spec
+    report-requires
+    enum-known-told
+    store-costs-requires
+    enum-known-told-2
+    store-costs-requires-2
+    enum-known-told-3
+    store-costs-requires-3
+    same-length
+    returns
+    same-length-2
+    returns-2
+    same-length-3
+    returns-3)
