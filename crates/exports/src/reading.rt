@@ -45,7 +45,7 @@ pub extern "C" fn cirbaldu_read(sheet: &[u8], answer: &mut [u64])
         let tables = layout.tables;
         copy_counts(layout, &mut answer[..6]);
         copy(&starts, &mut answer[6..70]);
-        copy(&tables, &mut answer[70..]);
+        copy(&tables, &mut answer[70..326]);
     }
 }
 

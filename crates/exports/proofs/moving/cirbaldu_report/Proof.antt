@@ -1,4 +1,10 @@
 -- `cirbaldu_report` meets its contract.
+use mathlib.Core.Path.{_≡_, sym, ap, _∙_}
+use denote.Ref.{now}
+use Rattle.rules.specs.Calls as calls
+use Rattle.messages.specs.Answers.{reportedAs}
+use Rattle.exports.specs.Moving.{numberOf, valuesOf}
+use Rattle.exports.proofs.AnswerLaws.{reported-by}
 use borrow.Author.Needs.{needs}
 use Rattle.exports.proofs.moving.cirbaldu_report.Statement.{statement}
 use Rattle.exports.proofs.moving.cirbaldu_report.Tie as tie
@@ -28,19 +34,31 @@ same-length : tie.Need-same-length
 same-length c = search needs
 
 returns : tie.Need-returns
-returns c = ?
+unfolding numberOf valuesOf
+returns c = 
+    let q = c .before .before .before .before .before .before .before .before .before in
+    let e = sym (ap reportedAs (c .before .before .before .before .told .given .1)) ∙ c .before .before .before .before .before .before .report .ensures in
+    reported-by _ (now (q .args .values)) e ?
 
 same-length-2 : tie.Need-same-length-2
 same-length-2 c = search needs
 
 returns-2 : tie.Need-returns-2
-returns-2 c = ?
+unfolding numberOf valuesOf
+returns-2 c = 
+    let q = c .before .before .before .before .before .before .before .before .before in
+    let e = sym (ap reportedAs (c .before .before .before .before .told2 .given .1)) ∙ c .before .before .before .before .before .before .report .ensures in
+    reported-by _ (now (q .args .values)) e ?
 
 same-length-3 : tie.Need-same-length-3
 same-length-3 c = search needs
 
 returns-3 : tie.Need-returns-3
-returns-3 c = ?
+unfolding numberOf valuesOf
+returns-3 c = 
+    let q = c .before .before .before .before .before .before .before .before .before in
+    let e = sym (ap reportedAs (c .before .before .before .before .told3 .given .1)) ∙ c .before .before .before .before .before .before .report .ensures in
+    reported-by _ (now (q .args .values)) e ?
 
 pub cirbaldu-report-spec : {M : Type 1} → statement M
 cirbaldu-report-spec =

@@ -1,4 +1,6 @@
 -- `cirbaldu_run` meets its contract.
+use denote.Ref.{now}
+use Rattle.exports.proofs.AnswerLaws.{ran-by}
 use borrow.Author.Needs.{needs}
 use Rattle.exports.proofs.moving.cirbaldu_run.Statement.{statement}
 use Rattle.exports.proofs.moving.cirbaldu_run.Tie as tie
@@ -28,7 +30,9 @@ same-length-5 : tie.Need-same-length-5
 same-length-5 c = search needs
 
 returns : tie.Need-returns
-returns c = ?
+returns c = 
+    let q = c .before .before .before .before .before .before .before .before .before .before .before .before .before .before .before .before .before .before .before in
+    ran-by _ (now (q .args .counts)) (c .before .before .before .before .before .before .before .before .before .before .run .ensures) (c .before .before .store .ensures)
 
 pub cirbaldu-run-spec : {M : Type 1} → statement M
 cirbaldu-run-spec =

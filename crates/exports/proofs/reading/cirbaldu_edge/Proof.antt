@@ -1,7 +1,24 @@
 -- `cirbaldu_edge` meets its contract.
+use mathlib.Core.Path.{_≡_, sym, ap, ap₂, _∙_}
+use mathlib.Core.List.{List, [], _∷_}
+use Prim.Native.Nat.{ℕ}
+use native.Mathlib.Omega.{arith}
+use denote.Ref.{now}
+use Rattle.instance.specs.Passes.{EdgeAsked}
+use Rattle.instance.proofs.LaidOut.{LaidOut, refusal-is, laid-out}
+use Rattle.instance.proofs.Shown.{edge-unread, edge-past, unrefused}
+use Rattle.exports.proofs.ShowLaws.{span-shown, span-hidden, shown-by}
 use borrow.Author.Needs.{needs}
 use Rattle.exports.proofs.reading.cirbaldu_edge.Statement.{statement}
 use Rattle.exports.proofs.reading.cirbaldu_edge.Tie as tie
+
+-- past both tests the edge is there
+module _ (p : tie.Then2) where
+  abbrev start : tie.Start
+  start = p .before .before .before .before .before .before .before
+
+  asked : EdgeAsked (now (start .args .sheet)) (p .before .before .before .before .read .result) (start .args .edge)
+  asked = record { answer = p .before .before .before .before .read .ensures; sound = p .before .before .if1 .left; there = p .if2 .taken }
 
 read-requires : tie.Need-read-requires
 read-requires c κs = search needs
@@ -16,7 +33,13 @@ same-length : tie.Need-same-length
 same-length c = search needs
 
 returns : tie.Need-returns
-returns c = ?
+returns c = 
+    let q = c .before .before .before .before .before .before .before .before .before .before in
+    let s = now (q .args .sheet) in
+    let r = refusal-is s (c .before .before .before .before .before .before .before .read .ensures) in
+    let z = edge-unread s (q .args .edge) (λ e. c .before .before .before .before .before .if1 .taken (r ∙ e)) in
+    shown-by s (q .args .edge) (0 ∷ 0 ∷ []) (now (q .args .span)) (r ∙ sym z)
+    (span-hidden s (q .args .edge) (λ e. c .before .before .before .before .before .if1 .taken (r ∙ sym z ∙ e))) (c .before .before .store .ensures)
 
 edge-from-requires : tie.Need-edge-from-requires
 edge-from-requires c κs = search needs
@@ -40,13 +63,26 @@ same-length-2 : tie.Need-same-length-2
 same-length-2 c = search needs
 
 returns-2 : tie.Need-returns-2
-returns-2 c = ?
+returns-2 c = 
+    let p = c .before .before .before .before .before .before .before in
+    let q = start p in
+    let s = now (q .args .sheet) in
+    shown-by s (q .args .edge) _ (now (q .args .span)) (sym (unrefused s (asked p)))
+    (ap₂ (λ (x y : ℕ). x ∷ y ∷ []) (c .before .before .before .before .before .before .edge-from .ensures) (c .before .before .before .before .before .edge-bytes .ensures) ∙ span-shown s (asked p)) (c .before .before .store2 .ensures)
 
 same-length-3 : tie.Need-same-length-3
 same-length-3 c = search needs
 
 returns-3 : tie.Need-returns-3
-returns-3 c = ?
+returns-3 c = 
+    let q = c .before .before .before .before .before .before .before .before .before .before .before .before in
+    let s = now (q .args .sheet) in
+    let e = c .before .before .before .before .before .before .before .if1 .left in
+    let f = c .before .before .before .before .before .before .before .before .before .read .ensures in
+    let d = laid-out s f e in
+    let z = edge-past s (q .args .edge) (sym (refusal-is s f) ∙ e) (omega (arith, d .edges, c .before .before .before .before .before .if2 .left)) in
+    shown-by s (q .args .edge) (0 ∷ 0 ∷ []) (now (q .args .span)) (sym z)
+    (span-hidden s (q .args .edge) (λ n. let w : 12 ≡ 0 = sym z ∙ n in omega arith)) (c .before .before .store3 .ensures)
 
 pub cirbaldu-edge-spec : {M : Type 1} → statement M
 cirbaldu-edge-spec =

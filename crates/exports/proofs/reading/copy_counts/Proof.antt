@@ -1,4 +1,8 @@
 -- `copy_counts` meets its contract.
+use mathlib.Core.Path.{_≡_, sym, ap, _∙_}
+use mathlib.Core.List.{List, [], _∷_}
+use Prim.Native.Nat.{ℕ}
+use Rattle.exports.specs.Reading.{countsOf}
 use borrow.Author.Needs.{needs}
 use Rattle.exports.proofs.reading.copy_counts.Statement.{statement}
 use Rattle.exports.proofs.reading.copy_counts.Tie as tie
@@ -16,7 +20,10 @@ same-length : tie.Need-same-length
 same-length c = search needs
 
 returns : tie.Need-returns
-returns c = ?
+unfolding countsOf
+returns c = 
+    let l = c .before .before .before .before .before .before .before .args .layout in
+    c .before .before .copy .ensures ∙ ap (λ (r : ℕ). r ∷ l .nodes ∷ l .labels ∷ l .edges ∷ l .positions ∷ l .cells ∷ []) (c .before .before .before .before .before .wide .ensures)
 
 pub copy-counts-spec : {M : Type 1} → statement M
 copy-counts-spec =
