@@ -1,8 +1,12 @@
 -- `cirbaldu_report` meets its contract.
 use mathlib.Core.Path.{_≡_, sym, ap, _∙_}
+use mathlib.Core.List.{List, [], _∷_}
+use lib.IntN.{ℤ, pos}
 use denote.Ref.{now}
+use Rattle.integers.proofs.Bits.{same}
 use Rattle.rules.specs.Calls as calls
 use Rattle.messages.specs.Answers.{reportedAs}
+use Rattle.exports.specs.Stored.{storedIn}
 use Rattle.exports.specs.Moving.{numberOf, valuesOf}
 use Rattle.exports.proofs.AnswerLaws.{reported-by}
 use borrow.Author.Needs.{needs}
@@ -38,7 +42,7 @@ unfolding numberOf valuesOf
 returns c = 
     let q = c .before .before .before .before .before .before .before .before .before in
     let e = sym (ap reportedAs (c .before .before .before .before .told .given .1)) ∙ c .before .before .before .before .before .before .report .ensures in
-    reported-by _ (now (q .args .values)) e ?
+    reported-by _ (now (q .args .values)) e (c .before .store-costs .ensures)
 
 same-length-2 : tie.Need-same-length-2
 same-length-2 c = search needs
@@ -48,7 +52,10 @@ unfolding numberOf valuesOf
 returns-2 c = 
     let q = c .before .before .before .before .before .before .before .before .before in
     let e = sym (ap reportedAs (c .before .before .before .before .told2 .given .1)) ∙ c .before .before .before .before .before .before .report .ensures in
-    reported-by _ (now (q .args .values)) e ?
+    let z = c .before .before .before .before .told2 .given .0 in
+    let k = c .before .before .before .known-told2 .given in
+    let n = same (z .0) (k .0 .1) in
+    reported-by _ (now (q .args .values)) e (c .before .store-costs2 .ensures ∙ ap (λ (x : ℤ). storedIn 4 (pos 0 ∷ x ∷ pos 0 ∷ pos 0 ∷ []) (now (q .args .values))) n)
 
 same-length-3 : tie.Need-same-length-3
 same-length-3 c = search needs
@@ -58,7 +65,12 @@ unfolding numberOf valuesOf
 returns-3 c = 
     let q = c .before .before .before .before .before .before .before .before .before in
     let e = sym (ap reportedAs (c .before .before .before .before .told3 .given .1)) ∙ c .before .before .before .before .before .before .report .ensures in
-    reported-by _ (now (q .args .values)) e ?
+    let z = c .before .before .before .before .told3 .given .0 in
+    let k = c .before .before .before .known-told3 .given in
+    let b = same (z .0) (k .0 .1) in
+    let p = same (z .1 .0) (k .1 .0 .1) in
+    let g = same (z .1 .1 .0) (k .1 .1 .0 .1) in
+    reported-by _ (now (q .args .values)) e (c .before .store-costs3 .ensures ∙ (λ j. storedIn 4 (pos 1 ∷ b j ∷ p j ∷ g j ∷ []) (now (q .args .values))))
 
 pub cirbaldu-report-spec : {M : Type 1} → statement M
 cirbaldu-report-spec =
