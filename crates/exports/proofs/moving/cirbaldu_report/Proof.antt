@@ -39,7 +39,7 @@ same-length c = search needs
 
 returns : tie.Need-returns
 unfolding numberOf valuesOf
-returns c = 
+returns c =
     let q = c .before .before .before .before .before .before .before .before .before in
     let e = sym (ap reportedAs (c .before .before .before .before .told .given .1)) ∙ c .before .before .before .before .before .before .report .ensures in
     reported-by _ (now (q .args .values)) e (c .before .store-costs .ensures)
@@ -49,7 +49,7 @@ same-length-2 c = search needs
 
 returns-2 : tie.Need-returns-2
 unfolding numberOf valuesOf
-returns-2 c = 
+returns-2 c =
     let q = c .before .before .before .before .before .before .before .before .before in
     let e = sym (ap reportedAs (c .before .before .before .before .told2 .given .1)) ∙ c .before .before .before .before .before .before .report .ensures in
     let z = c .before .before .before .before .told2 .given .0 in
@@ -62,7 +62,7 @@ same-length-3 c = search needs
 
 returns-3 : tie.Need-returns-3
 unfolding numberOf valuesOf
-returns-3 c = 
+returns-3 c =
     let q = c .before .before .before .before .before .before .before .before .before in
     let e = sym (ap reportedAs (c .before .before .before .before .told3 .given .1)) ∙ c .before .before .before .before .before .before .report .ensures in
     let z = c .before .before .before .before .told3 .given .0 in

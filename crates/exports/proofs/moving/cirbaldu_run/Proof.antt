@@ -30,7 +30,7 @@ same-length-5 : tie.Need-same-length-5
 same-length-5 c = search needs
 
 returns : tie.Need-returns
-returns c = 
+returns c =
     let q = c .before .before .before .before .before .before .before .before .before .before .before .before .before .before .before .before .before .before .before in
     ran-by _ (now (q .args .counts)) (c .before .before .before .before .before .before .before .before .before .before .run .ensures) (c .before .before .store .ensures)
 

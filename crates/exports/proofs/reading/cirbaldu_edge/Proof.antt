@@ -33,7 +33,7 @@ same-length : tie.Need-same-length
 same-length c = search needs
 
 returns : tie.Need-returns
-returns c = 
+returns c =
     let q = c .before .before .before .before .before .before .before .before .before .before in
     let s = now (q .args .sheet) in
     let r = refusal-is s (c .before .before .before .before .before .before .before .read .ensures) in
@@ -63,7 +63,7 @@ same-length-2 : tie.Need-same-length-2
 same-length-2 c = search needs
 
 returns-2 : tie.Need-returns-2
-returns-2 c = 
+returns-2 c =
     let p = c .before .before .before .before .before .before .before in
     let q = start p in
     let s = now (q .args .sheet) in
@@ -74,7 +74,7 @@ same-length-3 : tie.Need-same-length-3
 same-length-3 c = search needs
 
 returns-3 : tie.Need-returns-3
-returns-3 c = 
+returns-3 c =
     let q = c .before .before .before .before .before .before .before .before .before .before .before .before in
     let s = now (q .args .sheet) in
     let e = c .before .before .before .before .before .before .before .if1 .left in

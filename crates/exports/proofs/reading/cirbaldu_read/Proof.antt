@@ -107,7 +107,7 @@ same-length : tie.Need-same-length
 same-length c = search needs
 
 returns : tie.Need-returns
-returns c = 
+returns c =
     let m = c .before .before .before .before .before .before .before in
     let p = filled m in
     all-put (answer p) (counts p) (long p) (six p) (starts m) (more m) (c .before .before .copy2 .last .1 .0)
@@ -115,7 +115,7 @@ returns c =
     ∙ ap numbersOf (told p) ∙ stored 326 (numbersOf (layoutOf (sheet p))) (answer p) (long p)
 
 returns-2 : tie.Need-returns-2
-returns-2 c = 
+returns-2 c =
     let q = c .before .before .before in
     unstored 326 (numbersOf (layoutOf (now (q .args .sheet)))) (now (q .args .answer)) (c .if1 .left)
 

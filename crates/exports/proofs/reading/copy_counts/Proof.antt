@@ -21,7 +21,7 @@ same-length c = search needs
 
 returns : tie.Need-returns
 unfolding countsOf
-returns c = 
+returns c =
     let l = c .before .before .before .before .before .before .before .args .layout in
     c .before .before .copy .ensures ∙ ap (λ (r : ℕ). r ∷ l .nodes ∷ l .labels ∷ l .edges ∷ l .positions ∷ l .cells ∷ []) (c .before .before .before .before .before .wide .ensures)
 

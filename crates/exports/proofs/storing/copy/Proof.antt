@@ -39,7 +39,7 @@ loop-less : tie.Need-loop-less Inv-loop μ-loop
 loop-less c = omega arith
 
 loop-again : tie.Need-loop-again Inv-loop μ-loop
-loop-again c = 
+loop-again c =
     let q = c .before .before in
     fill-more (λ k. getD (now (q .before .args .values)) k 0) 0 (q .loop .inv) (omega arith)
 
@@ -47,7 +47,7 @@ same-length : tie.Need-same-length Inv-loop μ-loop
 same-length c = search needs
 
 returns : tie.Need-returns Inv-loop μ-loop
-returns c = 
+returns c =
     let q = c .before .before in
     let vs = now (q .args .values) in
     fill-all (λ k. getD vs k 0) (c .before .loop .inv) (omega arith) ∙ ap (λ (n : ℕ). tabulate n (λ k. getD vs k 0)) (q .pre) ∙ tabulate-each vs 0

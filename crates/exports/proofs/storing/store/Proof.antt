@@ -14,13 +14,13 @@ same-length : tie.Need-same-length
 same-length c = search needs
 
 returns : tie.Need-returns
-returns c = 
+returns c =
     let q = c .before .before .before .before .before .before .before in
     let vs = now (q .args .values) in
     c .before .before .copy .ensures ∙ stored (length vs) vs (now (q .args .lent)) (c .before .before .before .before .if1 .taken)
 
 returns-2 : tie.Need-returns-2
-returns-2 c = 
+returns-2 c =
     let q = c .before .before .before in
     unstored (length (now (q .args .values))) (now (q .args .values)) (now (q .args .lent)) (c .if1 .left)
 

@@ -24,7 +24,7 @@ same-length : tie.Need-same-length
 same-length c = search needs
 
 returns : tie.Need-returns
-returns c = 
+returns c =
     let a = c .before .args in
     let f = c .before .fits in
     rw (toZ-ofZ (f .kept), toZ-ofZ (f .bound), toZ-ofZ (f .cost), toZ-ofZ (f .gap))
