@@ -22,3 +22,8 @@ pub use answers::Report;
 pub use list::run;
 pub use opening::open;
 pub use reporting::report;
+
+// What reading promises, passed on to the layer above, which names this crate alone.
+pub use instance::Layout;
+pub use instance::read;
+pub use instance::refusal;

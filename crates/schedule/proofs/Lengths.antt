@@ -1,0 +1,185 @@
+-- "Either has 2E + N + 1 records"; and how many edges a node has, by the order of the edges.
+-- Assumes nothing.
+use mathlib.Core.Path.{_≡_, refl, ap, ap₂, _∙_}
+use mathlib.Core.List.{List, [], _∷_, _++_, map}
+use mathlib.Core.List.{List·Memᴰ as Mem}
+use mathlib.Core.Logic.{_⊎_, inl, inr, ⊎-elim}
+use Prim.Native.Nat.{ℕ, zero, suc, _+_, _*_, _≤_, _<_}
+use native.Mathlib.Nat.{not-suc-le-zero}
+use native.Mathlib.Omega.{arith}
+use borrow.Author.Tests.{eqb-true, eqb-false}
+use lib.Dec.{eqb}
+use lib.ListN.{length, length-append}
+use Rattle.integers.specs.Places.{range, offset}
+use Rattle.integers.proofs.Places.{by-test, by-cond, range-mem}
+use Rattle.integers.proofs.Ranges.{range-add}
+use Rattle.instance.specs.Instance.{Instance, first, nodeCells}
+use Rattle.instance.specs.Readable.{Proper}
+use Rattle.instance.proofs.LaidOut.{low-inside}
+use Rattle.schedule.specs.Sweep.{Entry, entry, bytes, each, falling, fromEdges, toEdges, toLabels, fromLabel, rounding, toLower, toHigher, positions, labelled, forwardAt, forward, labelAt, backwardAt, backward, sweep, sweepRecords, sweepLength}
+use Rattle.schedule.proofs.WritingLaws.{length-bytes}
+use Rattle.schedule.proofs.CountLaws.{select-few, offset-ext, offset-add, offset-swap, by-value}
+
+-- ---- parts
+
+pub mem-below : {n i : ℕ} → Mem i (range 0 n) → i < n
+mem-below {n} m = omega (arith, range-mem 0 n m .1)
+
+length-map : (f : ℕ → Entry) (l : List ℕ) → length (map f l) ≡ length l
+length-map f [] = refl
+length-map f (i ∷ l) = ap suc (length-map f l)
+
+pub length-range : (a n : ℕ) → length (range a n) ≡ n
+unfolding range
+length-range a zero = refl
+length-range a (suc n) = ap suc (length-range (suc a) n)
+
+pub length-toEdges : (u q : ℕ) (l : List ℕ) → length (toEdges u q l) ≡ length l
+unfolding toEdges
+length-toEdges u q [] = refl
+length-toEdges u q (e ∷ l) = ap suc (length-toEdges u _ l)
+
+each-append : (f : ℕ → List Entry) (k l : List ℕ) → length (each f (k ++ l)) ≡ length (each f k) + length (each f l)
+unfolding each
+each-append f [] l = omega arith
+each-append f (i ∷ k) l =
+    let ih = each-append f k l in
+    let a = length-append (f i) (each f (k ++ l)) in
+    let b = length-append (f i) (each f k) in
+    omega arith
+
+length-one : (f : ℕ → List Entry) (n : ℕ) → length (each f (range n 1)) ≡ length (f n)
+unfolding each range
+length-one f n = length-append (f n) [] ∙ omega arith
+
+pub length-rising : (f : ℕ → List Entry) (n : ℕ) → length (each f (range 0 n)) ≡ offset (λ i. length (f i)) n
+unfolding each range offset
+length-rising f zero = refl
+length-rising f (suc n) =
+    let e : suc n ≡ n + 1 = omega arith in
+    let e′ : 0 + n ≡ n = omega arith in
+    ap (λ (m : ℕ). length (each f (range 0 m))) e
+    ∙ ap (λ (l : List ℕ). length (each f l)) (range-add 0 n 1 ∙ ap (λ (a : ℕ). range 0 n ++ range a 1) e′)
+    ∙ each-append f (range 0 n) (range n 1)
+    ∙ ap₂ _+_ (length-rising f n) (length-one f n)
+
+pub length-falling : (f : ℕ → List Entry) (n : ℕ) → length (each f (falling n)) ≡ offset (λ i. length (f i)) n
+unfolding each falling offset
+length-falling f zero = refl
+length-falling f (suc n) = let ih = length-falling f n in let a = length-append (f n) (each f (falling n)) in omega arith
+
+-- ---- the two lists
+
+module _ (I : Instance) where
+  length-forwardAt : (u : ℕ) → length (forwardAt I u) ≡ length (toLower I u) + (length (toHigher I u) + I .degree u)
+  unfolding forwardAt fromEdges toLabels positions
+  length-forwardAt u =
+      let a = length-append (map (λ e. entry 2 u e 1) (toLower I u)) (toEdges u (length (toHigher I u) + 1) (toHigher I u) ++ map (λ k. entry 3 u k 1) (range 0 (I .degree u))) in
+      let b = length-append (toEdges u (length (toHigher I u) + 1) (toHigher I u)) (map (λ k. entry 3 u k 1) (range 0 (I .degree u))) in
+      let c = length-map (λ e. entry 2 u e 1) (toLower I u) in
+      let d = length-toEdges u (length (toHigher I u) + 1) (toHigher I u) in
+      let e = length-map (λ k. entry 3 u k 1) (range 0 (I .degree u)) in
+      let f = length-range 0 (I .degree u) in
+      omega arith
+
+  length-backwardAt : (u : ℕ) → length (backwardAt I u) ≡ length (toLower I u) + length (toHigher I u)
+  unfolding backwardAt fromEdges
+  length-backwardAt u =
+      let a = length-append (map (λ e. entry 2 u e 1) (toHigher I u)) (toEdges u (length (toLower I u)) (toLower I u)) in
+      let b = length-map (λ e. entry 2 u e 1) (toHigher I u) in
+      let c = length-toEdges u (length (toLower I u)) (toLower I u) in
+      omega arith
+
+  length-labelAt : (l : ℕ) → length (labelAt I l) ≡ offset (λ u. length (labelled I l u)) (I .nodeCount)
+  unfolding labelAt fromLabel
+  length-labelAt l =
+      length-rising (λ u. map (λ k. entry 4 u k 1) (labelled I l u)) (I .nodeCount)
+      ∙ offset-ext (I .nodeCount) (λ u. length (map (λ k. entry 4 u k 1) (labelled I l u))) (λ u. length (labelled I l u)) (λ u _. length-map (λ k. entry 4 u k 1) (labelled I l u))
+
+  length-rounding : length rounding ≡ 1
+  unfolding rounding
+  length-rounding = refl
+
+  module _ (p : Proper I) where
+    -- each edge has one higher and one lower end
+    all-lower : offset (λ u. length (toLower I u)) (I .nodeCount) ≡ I .edgeCount
+    unfolding toLower
+    all-lower = by-value (I .high) (I .nodeCount) (range 0 (I .edgeCount)) (λ e m. p .inside e (mem-below m)) ∙ length-range 0 (I .edgeCount)
+
+    all-higher : offset (λ u. length (toHigher I u)) (I .nodeCount) ≡ I .edgeCount
+    unfolding toHigher
+    all-higher = by-value (I .low) (I .nodeCount) (range 0 (I .edgeCount)) (λ e m. low-inside p (mem-below m)) ∙ length-range 0 (I .edgeCount)
+
+    -- each position has one label
+    all-labelled : offset (λ l. length (labelAt I l)) (I .labelCount) ≡ nodeCells I
+    unfolding first labelled positions
+    all-labelled =
+        offset-ext (I .labelCount) (λ l. length (labelAt I l)) (λ l. offset (λ u. length (labelled I l u)) (I .nodeCount)) (λ l _. length-labelAt l)
+        ∙ offset-swap (I .labelCount) (I .nodeCount) (λ l u. length (labelled I l u))
+        ∙ offset-ext (I .nodeCount) (λ u. offset (λ l. length (labelled I l u)) (I .labelCount)) (I .degree) (λ u h.
+        by-value (λ k. I .label (first I u + k)) (I .labelCount) (range 0 (I .degree u)) (λ k m. p .known u k h (mem-below m)) ∙ length-range 0 (I .degree u))
+
+    pub forward-records : length (forward I) ≡ sweepRecords I
+    unfolding forward sweepRecords first
+    forward-records =
+        let n = I .nodeCount in
+        let a = length-append (each (forwardAt I) (range 0 n)) rounding in
+        let b = length-rising (forwardAt I) n in
+        let c = offset-ext n (λ u. length (forwardAt I u)) (λ u. length (toLower I u) + (length (toHigher I u) + I .degree u)) (λ u _. length-forwardAt u) in
+        let d = offset-add n (λ u. length (toLower I u)) (λ u. length (toHigher I u) + I .degree u) in
+        let e = offset-add n (λ u. length (toHigher I u)) (I .degree) in
+        omega (arith, all-lower, all-higher, length-rounding)
+
+    pub backward-records : length (backward I) ≡ sweepRecords I
+    unfolding backward sweepRecords
+    backward-records =
+        let n = I .nodeCount in
+        let m = I .labelCount in
+        let a = length-append (each (labelAt I) (falling m)) (each (backwardAt I) (falling n) ++ rounding) in
+        let b = length-append (each (backwardAt I) (falling n)) rounding in
+        let c = length-falling (labelAt I) m in
+        let d = length-falling (backwardAt I) n in
+        let e = offset-ext n (λ u. length (backwardAt I u)) (λ u. length (toLower I u) + length (toHigher I u)) (λ u _. length-backwardAt u) in
+        let f = offset-add n (λ u. length (toLower I u)) (λ u. length (toHigher I u)) in
+        omega (arith, all-lower, all-higher, all-labelled, length-rounding)
+
+    -- either: in records, and in bytes
+    pub sweep-records : (direction : ℕ) → length (sweep I direction) ≡ sweepRecords I
+    unfolding sweep
+    sweep-records direction = by-cond (λ (l : List Entry). length l ≡ sweepRecords I) (eqb direction 0) (λ _. forward-records) (λ _. backward-records)
+
+    pub sweep-length : (direction : ℕ) → length (bytes (sweep I direction)) ≡ sweepLength I
+    unfolding sweepLength
+    sweep-length direction = length-bytes (sweep I direction) ∙ ap (λ (k : ℕ). 5 * k) (sweep-records direction)
+
+    -- ---- edges rise by their lower ends, then by their higher, however far apart
+
+    rise : (i j : ℕ) → i < j → j < I .edgeCount → (I .low i < I .low j) ⊎ ((I .low i ≡ I .low j) × (I .high i < I .high j))
+    rise i zero h k = absurd (not-suc-le-zero h)
+    rise i (suc j) h k =
+        by-test (eqb i j)
+        (λ e. let q : i ≡ j = eqb-true i j e in rw q (p .sorted j k))
+        (λ e. let q : i ≡ j → ⊥ = eqb-false i j e in
+        ⊎-elim
+        (λ a. ⊎-elim (λ b. inl (omega arith)) (λ b. inl (omega arith)) (p .sorted j k))
+        (λ a. ⊎-elim (λ b. inl (omega arith)) (λ b. inr (omega arith, omega arith)) (p .sorted j k))
+        (rise i j (omega arith) (omega arith)))
+
+    -- a node's edges to higher nodes have different ends, above it
+    pub higher-few : {u : ℕ} → u < I .nodeCount → length (toHigher I u) + suc u ≤ I .nodeCount
+    unfolding toHigher
+    higher-few {u} h =
+        select-few (λ e. eqb (I .low e) u) (I .high) 0 (I .edgeCount) (suc u) (I .nodeCount) h
+        (λ e a b t. let q = eqb-true (I .low e) u t in let o = p .ordered e (omega arith) in (omega arith, p .inside e (omega arith)))
+        (λ i j a b c t s. let q = eqb-true (I .low i) u t in let r = eqb-true (I .low j) u s in
+        ⊎-elim (λ o. absurd (omega arith)) (λ o. o .1) (rise i j b (omega arith)))
+
+    -- and those to lower nodes below it
+    pub lower-few : (u : ℕ) → length (toLower I u) ≤ u
+    unfolding toLower
+    lower-few u =
+        let f = select-few (λ e. eqb (I .high e) u) (I .low) 0 (I .edgeCount) 0 u (omega arith)
+        (λ e a b t. let q = eqb-true (I .high e) u t in let o = p .ordered e (omega arith) in (omega arith, omega arith))
+        (λ i j a b c t s. let q = eqb-true (I .high i) u t in let r = eqb-true (I .high j) u s in
+        ⊎-elim (λ o. o) (λ o. absurd (omega arith)) (rise i j b (omega arith))) in
+        omega arith

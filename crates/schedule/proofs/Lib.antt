@@ -1,0 +1,7 @@
+-- Laws of the sweeps, and of writing them.
+pub mod WritingLaws
+pub mod CountLaws
+pub mod Lengths
+pub mod Sight
+pub mod Written
+pub mod Legal

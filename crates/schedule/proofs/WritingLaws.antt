@@ -1,0 +1,221 @@
+-- Writing records one after another: a buffer in which some are still to be written, turn by turn.
+-- Assumes nothing.
+use mathlib.Core.Path.{_≡_, refl, sym, ap, ap₂, subst, _∙_}
+use mathlib.Core.Bool.{Bool, true, false}
+use mathlib.Core.List.{List, [], _∷_, _++_, map, append-nil}
+use Prim.Native.Nat.{ℕ, suc, _+_, _-_, _*_, _/_, _%_, _≤_, _<_}
+use native.Mathlib.Numerals.{add-one}
+use native.Mathlib.Omega.{arith}
+use lib.ListN.{length, set, length-append, drop-of-length-le}
+use lib.Seq.{sets, sets-eq, length-sets}
+use Rattle.integers.specs.Places.{range, select}
+use Rattle.schedule.specs.Sweep.{Entry, entry, bytes, each, falling, toEdges}
+use Rattle.schedule.specs.Writing.{Writing, Wrote, Room}
+
+-- ---- bytes
+
+pub bytes-append : (k l : List Entry) → bytes (k ++ l) ≡ bytes k ++ bytes l
+unfolding bytes
+bytes-append [] l = refl
+bytes-append (x ∷ k) l = ap (λ (b : List ℕ). x .kind ∷ x .node ∷ x .index % 256 ∷ x .index / 256 ∷ x .share ∷ b) (bytes-append k l)
+
+pub length-bytes : (l : List Entry) → length (bytes l) ≡ 5 * length l
+unfolding bytes
+length-bytes [] = refl
+length-bytes (x ∷ l) = let h = length-bytes l in omega arith
+
+sets-append : (out : List ℕ) (at : ℕ) (k l : List ℕ) → sets out at (k ++ l) ≡ sets (sets out at k) (at + length k) l
+sets-append out at [] l = let e : at ≡ at + 0 = omega arith in ap (λ (i : ℕ). sets out i l) e
+sets-append out at (b ∷ k) l = let e : suc at + length k ≡ at + suc (length k) = omega arith in
+    sets-append (set out at b) (suc at) k l ∙ ap (λ (i : ℕ). sets (sets (set out at b) (suc at) k) i l) e
+
+-- ---- writing
+
+pub writing-start : (out : List ℕ) (at : ℕ) (whole : List Entry) → Writing out at whole out at whole
+writing-start out at whole = record { content = refl; place = refl }
+
+module _ {out₀ : List ℕ} {at₀ : ℕ} {whole : List Entry} {out : List ℕ} {at : ℕ} where
+  -- what is left in other words
+  pub writing-as : {k l : List Entry} → k ≡ l → Writing out₀ at₀ whole out at k → Writing out₀ at₀ whole out at l
+  writing-as e w = subst (λ (r : List Entry). Writing out₀ at₀ whole out at r) e w
+
+  -- the whole in other words
+  pub writing-for : {whole′ l : List Entry} → whole ≡ whole′ → Writing out₀ at₀ whole out at l → Writing out₀ at₀ whole′ out at l
+  writing-for {whole′} {l} e w = subst (λ (r : List Entry). Writing out₀ at₀ r out at l) e w
+
+  -- the first of what is left, k, was written
+  pub writing-more : (k l : List Entry) {out′ : List ℕ} {at′ : ℕ} → Writing out₀ at₀ whole out at (k ++ l) → Wrote out at k out′ at′ → Writing out₀ at₀ whole out′ at′ l
+  unfolding bytes
+  writing-more k l {out′} {at′} w v =
+      let n = length-append k l in
+      let m = length-bytes k in
+      let e : at′ ≡ at + length (bytes k) = omega (arith, v .place) in
+      record {
+        content = ap₂ (λ (o : List ℕ) (i : ℕ). sets o i (bytes l)) (v .content) e
+            ∙ sym (sets-append out at (bytes k) (bytes l)) ∙ ap (sets out at) (sym (bytes-append k l)) ∙ w .content;
+        place = omega (arith, w .place, v .place);
+      }
+
+  pub writing-size : (l : List Entry) → Writing out₀ at₀ whole out at l → length out ≡ length out₀
+  writing-size l w = sym (length-sets out at (bytes l)) ∙ ap length (w .content) ∙ length-sets out₀ at₀ (bytes whole)
+
+  -- there is room for it
+  pub writing-room : (k l : List Entry) → Writing out₀ at₀ whole out at (k ++ l) → Room out₀ at₀ whole → Room out at k
+  writing-room k l w h = record { fits = omega (arith, w .place, writing-size (k ++ l) w, length-append k l, h .fits) }
+
+-- ---- one list after another
+
+module _ (k l : List Entry) {out : List ℕ} {at : ℕ} where
+  pub room-left : Room out at (k ++ l) → Room out at k
+  room-left r = record { fits = omega (arith, length-append k l, r .fits) }
+
+  module _ {out′ : List ℕ} {at′ : ℕ} (w : Wrote out at k out′ at′) where
+    pub room-right : Room out at (k ++ l) → Room out′ at′ l
+    room-right r = record { fits = omega (arith, length-append k l, w .place, writing-size [] w, r .fits) }
+
+    pub wrote-append : {out″ : List ℕ} {at″ : ℕ} → Wrote out′ at′ l out″ at″ → Wrote out at (k ++ l) out″ at″
+    wrote-append v = writing-more l [] (writing-as (sym (append-nil l)) (writing-more k l (writing-start out at (k ++ l)) w)) v
+
+-- a whole buffer
+pub room-whole : {out : List ℕ} (l : List Entry) → length out ≡ length (bytes l) → Room out 0 l
+room-whole l e = record { fits = omega (arith, e, length-bytes l) }
+
+pub wrote-all : {out out′ : List ℕ} {at′ : ℕ} (l : List Entry) → Wrote out 0 l out′ at′ → length out ≡ length (bytes l) → out′ ≡ bytes l
+unfolding bytes
+wrote-all {out} {out′} {at′} l w e =
+    let z : length out ≤ 0 + length (bytes l) = omega arith in
+    w .content ∙ sets-eq (bytes l) out 0 (omega arith) ∙ ap (λ (r : List ℕ). bytes l ++ r) (drop-of-length-le out z) ∙ append-nil (bytes l)
+
+-- five stores
+pub five : (out : List ℕ) (at kind node index share : ℕ)
+    → Wrote out at (entry kind node index share ∷ []) (set (set (set (set (set out at kind) (at + 1) node) (at + 2) (index % 256)) (at + 3) (index / 256)) (at + 4) share) (at + 5)
+unfolding bytes
+five out at kind node index share =
+    let e1 : at + 1 ≡ suc at = omega arith in
+    let e2 : at + 2 ≡ suc (suc at) = omega arith in
+    let e3 : at + 3 ≡ suc (suc (suc at)) = omega arith in
+    let e4 : at + 4 ≡ suc (suc (suc (suc at))) = omega arith in
+    record { content = rw (e1, e2, e3, e4); place = omega arith }
+
+-- ---- loops: what is left from i on, below n; and the numbers below i, falling
+
+abbrev pub onward : ℕ → ℕ → List ℕ
+onward n i = range i (n - i)
+
+pub onward-start : (n : ℕ) → range 0 n ≡ onward n 0
+onward-start n = let e : n ≡ n - 0 = omega arith in ap (range 0) e
+
+pub onward-more : {n i : ℕ} → i < n → onward n i ≡ i ∷ onward n (i + 1)
+unfolding range
+onward-more {n} {i} h =
+    let e : n - i ≡ suc (n - (i + 1)) = omega arith in
+    ap (range i) e ∙ ap (λ (k : ℕ). i ∷ range k (n - (i + 1))) (sym (add-one i))
+
+pub onward-end : {n i : ℕ} → n ≤ i → onward n i ≡ []
+unfolding range
+onward-end {n} {i} h = let e : n - i ≡ 0 = omega arith in ap (range i) e
+
+-- the lists of each
+pub each-more : (f : ℕ → List Entry) {n i : ℕ} → i < n → each f (onward n i) ≡ f i ++ each f (onward n (i + 1))
+unfolding each
+each-more f h = ap (each f) (onward-more h)
+
+pub each-end : (f : ℕ → List Entry) {n i : ℕ} → n ≤ i → each f (onward n i) ≡ []
+unfolding each
+each-end f h = ap (each f) (onward-end h)
+
+pub each-falling : (f : ℕ → List Entry) {i : ℕ} → 0 < i → each f (falling i) ≡ f (i - 1) ++ each f (falling (i - 1))
+unfolding each falling
+each-falling f {i} h = let e : i ≡ suc (i - 1) = omega arith in ap (λ (k : ℕ). each f (falling k)) e
+
+-- one that passes a test, and one that does not
+pub select-hit : (t : ℕ → Bool) {n i : ℕ} → i < n → t i ≡ true → select t (onward n i) ≡ i ∷ select t (onward n (i + 1))
+unfolding select
+select-hit t h e = ap (select t) (onward-more h) ∙ rw e
+
+pub select-miss : (t : ℕ → Bool) {n i : ℕ} → i < n → t i ≡ false → select t (onward n i) ≡ select t (onward n (i + 1))
+unfolding select
+select-miss t h e = ap (select t) (onward-more h) ∙ rw e
+
+pub select-end : (t : ℕ → Bool) {n i : ℕ} → n ≤ i → select t (onward n i) ≡ []
+unfolding select
+select-end t h = ap (select t) (onward-end h)
+
+-- ---- a loop that writes f of each number that passes a test
+
+module _ (t : ℕ → Bool) (f : ℕ → Entry) where
+  pub turns-start : (n : ℕ) (out : List ℕ) (at : ℕ) → Writing out at (map f (select t (range 0 n))) out at (map f (select t (onward n 0)))
+  turns-start n out at = writing-as (ap (λ (l : List ℕ). map f (select t l)) (onward-start n)) (writing-start out at (map f (select t (range 0 n))))
+
+  module _ {out₀ : List ℕ} {at₀ : ℕ} {whole : List Entry} {out : List ℕ} {at n i : ℕ} (w : Writing out₀ at₀ whole out at (map f (select t (onward n i)))) where
+    pub turns-room : i < n → t i ≡ true → Room out₀ at₀ whole → Room out at (f i ∷ [])
+    turns-room h e r = writing-room (f i ∷ []) (map f (select t (onward n (i + 1)))) (writing-as (ap (map f) (select-hit t h e)) w) r
+
+    pub turns-hit : {out′ : List ℕ} {at′ : ℕ} → i < n → t i ≡ true → Wrote out at (f i ∷ []) out′ at′ → Writing out₀ at₀ whole out′ at′ (map f (select t (onward n (i + 1))))
+    turns-hit h e v = writing-more (f i ∷ []) (map f (select t (onward n (i + 1)))) (writing-as (ap (map f) (select-hit t h e)) w) v
+
+    pub turns-miss : i < n → t i ≡ false → Writing out₀ at₀ whole out at (map f (select t (onward n (i + 1))))
+    turns-miss h e = writing-as (ap (map f) (select-miss t h e)) w
+
+    pub turns-end : n ≤ i → Wrote out₀ at₀ whole out at
+    turns-end h = writing-as (ap (map f) (select-end t h)) w
+
+-- ---- the same with shares that fall
+
+module _ (t : ℕ → Bool) (u : ℕ) where
+  pub shares-start : (q n : ℕ) (out : List ℕ) (at : ℕ) → Writing out at (toEdges u q (select t (range 0 n))) out at (toEdges u q (select t (onward n 0)))
+  shares-start q n out at = writing-as (ap (λ (l : List ℕ). toEdges u q (select t l)) (onward-start n)) (writing-start out at (toEdges u q (select t (range 0 n))))
+
+  module _ {out₀ : List ℕ} {at₀ : ℕ} {whole : List Entry} {out : List ℕ} {at n i : ℕ} (q : ℕ) (w : Writing out₀ at₀ whole out at (toEdges u q (select t (onward n i)))) where
+    first : i < n → t i ≡ true → Writing out₀ at₀ whole out at ((entry 1 u i q ∷ []) ++ toEdges u (q - 1) (select t (onward n (i + 1))))
+    unfolding toEdges
+    first h e = writing-as (ap (toEdges u q) (select-hit t h e)) w
+
+    pub shares-room : i < n → t i ≡ true → Room out₀ at₀ whole → Room out at (entry 1 u i q ∷ [])
+    shares-room h e r = writing-room (entry 1 u i q ∷ []) (toEdges u (q - 1) (select t (onward n (i + 1)))) (first h e) r
+
+    pub shares-hit : {out′ : List ℕ} {at′ : ℕ} → i < n → t i ≡ true → Wrote out at (entry 1 u i q ∷ []) out′ at′ → Writing out₀ at₀ whole out′ at′ (toEdges u (q - 1) (select t (onward n (i + 1))))
+    shares-hit h e v = writing-more (entry 1 u i q ∷ []) (toEdges u (q - 1) (select t (onward n (i + 1)))) (first h e) v
+
+    pub shares-miss : i < n → t i ≡ false → Writing out₀ at₀ whole out at (toEdges u q (select t (onward n (i + 1))))
+    shares-miss h e = writing-as (ap (toEdges u q) (select-miss t h e)) w
+
+    pub shares-end : n ≤ i → Wrote out₀ at₀ whole out at
+    unfolding toEdges
+    shares-end h = writing-as (ap (toEdges u q) (select-end t h)) w
+
+-- ---- how many pass a test, and of those left at least one where the next one does
+
+pub counted-hit : (t : ℕ → Bool) {n i : ℕ} → i < n → t i ≡ true → length (select t (onward n i)) ≡ suc (length (select t (onward n (i + 1))))
+counted-hit t h e = ap length (select-hit t h e)
+
+pub counted-miss : (t : ℕ → Bool) {n i : ℕ} → i < n → t i ≡ false → length (select t (onward n i)) ≡ length (select t (onward n (i + 1)))
+counted-miss t h e = ap length (select-miss t h e)
+
+pub counted-end : (t : ℕ → Bool) {n i : ℕ} → n ≤ i → length (select t (onward n i)) ≡ 0
+counted-end t h = ap length (select-end t h)
+
+-- ---- a loop that writes a list for each number, rising or falling
+
+module _ (f : ℕ → List Entry) {out₀ : List ℕ} {at₀ : ℕ} {whole : List Entry} {out : List ℕ} {at : ℕ} where
+  pub rising-room : {n i : ℕ} → Writing out₀ at₀ whole out at (each f (onward n i)) → i < n → Room out₀ at₀ whole → Room out at (f i)
+  rising-room {n} {i} w h r = writing-room (f i) (each f (onward n (i + 1))) (writing-as (each-more f h) w) r
+
+  pub rising-more : {n i : ℕ} {out′ : List ℕ} {at′ : ℕ} → Writing out₀ at₀ whole out at (each f (onward n i)) → i < n → Wrote out at (f i) out′ at′ → Writing out₀ at₀ whole out′ at′ (each f (onward n (i + 1)))
+  rising-more {n} {i} w h v = writing-more (f i) (each f (onward n (i + 1))) (writing-as (each-more f h) w) v
+
+  pub rising-end : {n i : ℕ} → Writing out₀ at₀ whole out at (each f (onward n i)) → n ≤ i → Wrote out₀ at₀ whole out at
+  rising-end w h = writing-as (each-end f h) w
+
+  pub falling-room : {i : ℕ} → Writing out₀ at₀ whole out at (each f (falling i)) → 0 < i → Room out₀ at₀ whole → Room out at (f (i - 1))
+  falling-room {i} w h r = writing-room (f (i - 1)) (each f (falling (i - 1))) (writing-as (each-falling f h) w) r
+
+  pub falling-more : {i : ℕ} {out′ : List ℕ} {at′ : ℕ} → Writing out₀ at₀ whole out at (each f (falling i)) → 0 < i → Wrote out at (f (i - 1)) out′ at′ → Writing out₀ at₀ whole out′ at′ (each f (falling (i - 1)))
+  falling-more {i} w h v = writing-more (f (i - 1)) (each f (falling (i - 1))) (writing-as (each-falling f h) w) v
+
+  pub falling-end : {i : ℕ} → Writing out₀ at₀ whole out at (each f (falling i)) → i ≤ 0 → Wrote out₀ at₀ whole out at
+  unfolding each falling
+  falling-end {i} w h = let e : i ≡ 0 = omega arith in writing-as (ap (λ (k : ℕ). each f (falling k)) e) w
+
+pub rising-start : (f : ℕ → List Entry) (n : ℕ) (out : List ℕ) (at : ℕ) → Writing out at (each f (range 0 n)) out at (each f (onward n 0))
+rising-start f n out at = writing-as (ap (each f) (onward-start n)) (writing-start out at (each f (range 0 n)))
