@@ -1,10 +1,9 @@
 -- The answers of a run and of a report, stored.
 -- Assumes nothing.
-use mathlib.Core.Path.{_≡_, ap, ap₂, _∙_}
+use mathlib.Core.Path.{_≡_, ap, _∙_}
 use mathlib.Core.List.{List, [], _∷_}
 use Prim.Native.Nat.{ℕ}
 use lib.IntN.{ℤ}
-use Rattle.rules.specs.Costs.{Buffers}
 use Rattle.rules.specs.Run.{Ran}
 use Rattle.rules.specs.Calls.{Report}
 use Rattle.exports.specs.Stored.{storedIn, answered}

@@ -1,6 +1,6 @@
 -- The numbers of a reading: the two arrays have 64 and 256 places, refused or not.
 -- Assumes nothing.
-use mathlib.Core.Path.{_≡_, refl, ap, _∙_}
+use mathlib.Core.Path.{_≡_, refl}
 use mathlib.Core.List.{List, _++_}
 use Prim.Native.Nat.{ℕ}
 use lib.Dec.{eqb}

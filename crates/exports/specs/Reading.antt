@@ -6,10 +6,11 @@ use Rattle.instance.specs.declared.reading.Layout.{Layout}
 use Rattle.instance.specs.Layout.{edgeRefusalOf, edgePlaceOf, edgePricesOf}
 use Rattle.exports.specs.Stored.{storedIn, Answered, answered}
 
--- the refusal, n, L, E, N, M, the 64 node starts and the 256 edge starts: 326 numbers
+-- the refusal, n, L, E, N, M
 unfoldable pub countsOf : Layout → List ℕ
 countsOf l = l .refusal ∷ l .nodes ∷ l .labels ∷ l .edges ∷ l .positions ∷ l .cells ∷ []
 
+-- then the 64 node starts and the 256 edge starts: 326 numbers
 unfoldable pub numbersOf : Layout → List ℕ
 numbersOf l = countsOf l ++ (l .starts ++ l .tables)
 

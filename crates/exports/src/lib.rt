@@ -4,9 +4,11 @@
 mod moving;
 mod reading;
 mod storing;
+mod sweeping;
 
 pub use moving::cirbaldu_open;
 pub use moving::cirbaldu_report;
 pub use moving::cirbaldu_run;
 pub use reading::cirbaldu_edge;
 pub use reading::cirbaldu_read;
+pub use sweeping::cirbaldu_sweep;

@@ -6,11 +6,14 @@ use instance::read;
 use instance::refusal::NO_SUCH_RECORD;
 use instance::refusal::NONE;
 ghost use mathlib.Core.Path.{_≡_};
+ghost use Prim.Native.Nat.{_≤_};
 ghost use lib.ListN.{length};
-ghost use Rattle.instance.specs.Layout.{layoutOf, edgeFrom, edgeBytes};
+ghost use Rattle.instance.specs.Instance.{table};
+ghost use Rattle.instance.specs.Sheet.{instanceOf};
+ghost use Rattle.instance.specs.Layout.{layoutOf};
 ghost use Rattle.instance.specs.Passes.{EdgeAsked};
 ghost use Rattle.exports.specs.Stored.{storedIn, answered};
-ghost use Rattle.exports.specs.Reading.{countsOf, numbersOf, shownIn};
+ghost use Rattle.exports.specs.Reading.{countsOf, numbersOf, spanOf, shownIn};
 
 // The refusal and the five counts.
 fn copy_counts(layout: Layout, lent: &mut [u64])
@@ -49,27 +52,29 @@ pub extern "C" fn cirbaldu_read(sheet: &[u8], answer: &mut [u64])
     }
 }
 
-// Where the prices of an edge begin in the sheet.
-fn edge_from(sheet: &[u8], layout: Layout, edge: usize) -> usize
-    requires { ⌜ EdgeAsked (now sheet) layout edge ⌝ }
-    ensures { λ r. ⌜ r ≡ edgeFrom (now (sheet .entry)) edge ⌝ }
+// Where the table of an edge begins, counted in cells; past the last edge, where all tables end.
+fn table_at(sheet: &[u8], layout: Layout, edge: usize) -> usize
+    requires { ⌜ (layout ≡ layoutOf (now sheet)) × (layout .refusal ≡ 0) × (edge ≤ layout .edges) ⌝ }
+    ensures { λ r. ⌜ r ≡ table (instanceOf (now (sheet .entry))) edge ⌝ }
 {
-    let tables = layout.tables;
-    layout.nodes + 5 * layout.positions + 2 * layout.edges + 4 * tables[edge]
+    if edge < layout.edges {
+        let tables = layout.tables;
+        tables[edge]
+    } else {
+        layout.cells
+    }
 }
 
-// How many bytes they take, up to where the next edge's table begins.
-fn edge_bytes(sheet: &[u8], layout: Layout, edge: usize) -> usize
+// The span of an edge that is there.
+fn store_span(sheet: &[u8], layout: Layout, edge: usize, span: &mut [u64])
     requires { ⌜ EdgeAsked (now sheet) layout edge ⌝ }
-    ensures { λ r. ⌜ r ≡ edgeBytes (now (sheet .entry)) edge ⌝ }
+    ensures { λ _. ⌜ now (span .exit) ≡ storedIn 2 (spanOf (now (sheet .entry)) edge) (now (span .entry)) ⌝ }
 {
-    let tables = layout.tables;
-    let next = edge + 1;
-    if next < layout.edges {
-        4 * (tables[next] - tables[edge])
-    } else {
-        4 * (layout.cells - tables[edge])
-    }
+    let prices = layout.nodes + 5 * layout.positions + 2 * layout.edges;
+    let from = table_at(sheet, layout, edge);
+    let to = table_at(sheet, layout, edge + 1);
+    let place = [prices + 4 * from, 4 * (to - from)];
+    store(&place, span);
 }
 
 // Shows an edge; answers the refusal. Of two places, `span` has where its prices begin in the sheet and how many bytes they take.
@@ -77,21 +82,16 @@ fn edge_bytes(sheet: &[u8], layout: Layout, edge: usize) -> usize
 pub extern "C" fn cirbaldu_edge(sheet: &[u8], edge: usize, span: &mut [u64]) -> u8
     ensures { λ r. ⌜ answered r (now (span .exit)) ≡ shownIn (now (sheet .entry)) edge (now (span .entry)) ⌝ }
 {
+    let nowhere = [0, 0];
     let layout = read(sheet);
     if layout.refusal != NONE {
-        let nowhere = [0, 0];
         store(&nowhere, span);
         return layout.refusal;
     }
     if edge < layout.edges {
-        let place = [
-            edge_from(sheet, layout, edge),
-            edge_bytes(sheet, layout, edge),
-        ];
-        store(&place, span);
+        store_span(sheet, layout, edge, span);
         NONE
     } else {
-        let nowhere = [0, 0];
         store(&nowhere, span);
         NO_SUCH_RECORD
     }

@@ -1,10 +1,9 @@
 -- `cirbaldu_report` meets its contract.
-use mathlib.Core.Path.{_≡_, sym, ap, _∙_}
-use mathlib.Core.List.{List, [], _∷_}
+use mathlib.Core.Path.{sym, ap, _∙_}
+use mathlib.Core.List.{[], _∷_}
 use lib.IntN.{ℤ, pos}
 use denote.Ref.{now}
 use Rattle.integers.proofs.Bits.{same}
-use Rattle.rules.specs.Calls as calls
 use Rattle.messages.specs.Answers.{reportedAs}
 use Rattle.exports.specs.Stored.{storedIn}
 use Rattle.exports.specs.Moving.{numberOf, valuesOf}

@@ -1,13 +1,11 @@
--- `cirbaldu_edge` meets its contract.
-use mathlib.Core.Path.{_≡_, sym, ap, ap₂, _∙_}
-use mathlib.Core.List.{List, [], _∷_}
-use Prim.Native.Nat.{ℕ}
+-- `cirbaldu_edge` meets its contract: the refusal of the sheet, the edge that is there, and the one that is not.
+use mathlib.Core.Path.{sym, _∙_}
 use native.Mathlib.Omega.{arith}
 use denote.Ref.{now}
 use Rattle.instance.specs.Passes.{EdgeAsked}
-use Rattle.instance.proofs.LaidOut.{LaidOut, refusal-is, laid-out}
+use Rattle.instance.proofs.LaidOut.{refusal-is, laid-out}
 use Rattle.instance.proofs.Shown.{edge-unread, edge-past, unrefused}
-use Rattle.exports.proofs.ShowLaws.{span-shown, span-hidden, shown-by}
+use Rattle.exports.proofs.ShowLaws.{shown-by, hidden-by}
 use borrow.Author.Needs.{needs}
 use Rattle.exports.proofs.reading.cirbaldu_edge.Statement.{statement}
 use Rattle.exports.proofs.reading.cirbaldu_edge.Tie as tie
@@ -37,15 +35,11 @@ returns c =
     let q = c .before .before .before .before .before .before .before .before .before .before in
     let s = now (q .args .sheet) in
     let r = refusal-is s (c .before .before .before .before .before .before .before .read .ensures) in
-    let z = edge-unread s (q .args .edge) (λ e. c .before .before .before .before .before .if1 .taken (r ∙ e)) in
-    shown-by s (q .args .edge) (0 ∷ 0 ∷ []) (now (q .args .span)) (r ∙ sym z)
-    (span-hidden s (q .args .edge) (λ e. c .before .before .before .before .before .if1 .taken (r ∙ sym z ∙ e))) (c .before .before .store .ensures)
+    let h = c .before .before .before .before .before .if1 .taken in
+    hidden-by s (q .args .edge) (now (q .args .span)) (r ∙ sym (edge-unread s (q .args .edge) (λ e. h (r ∙ e)))) h (c .before .before .store .ensures)
 
-edge-from-requires : tie.Need-edge-from-requires
-edge-from-requires c κs = search needs
-
-edge-bytes-requires : tie.Need-edge-bytes-requires
-edge-bytes-requires c κs = search needs
+store-span-requires : tie.Need-store-span-requires
+store-span-requires c κs = search needs
 
 slice-aggregate-store-2 : tie.Need-slice-aggregate-store-2
 slice-aggregate-store-2 c = search needs
@@ -53,22 +47,15 @@ slice-aggregate-store-2 c = search needs
 store-requires-2 : tie.Need-store-requires-2
 store-requires-2 c κs = search needs
 
-slice-aggregate-store-3 : tie.Need-slice-aggregate-store-3
-slice-aggregate-store-3 c = search needs
-
-store-requires-3 : tie.Need-store-requires-3
-store-requires-3 c κs = search needs
-
 same-length-2 : tie.Need-same-length-2
 same-length-2 c = search needs
 
 returns-2 : tie.Need-returns-2
 returns-2 c =
-    let p = c .before .before .before .before .before .before .before in
+    let p = c .before .before .before .before in
     let q = start p in
     let s = now (q .args .sheet) in
-    shown-by s (q .args .edge) _ (now (q .args .span)) (sym (unrefused s (asked p)))
-    (ap₂ (λ (x y : ℕ). x ∷ y ∷ []) (c .before .before .before .before .before .before .edge-from .ensures) (c .before .before .before .before .before .edge-bytes .ensures) ∙ span-shown s (asked p)) (c .before .before .store2 .ensures)
+    shown-by s (q .args .edge) (now (q .args .span)) (sym (unrefused s (asked p))) (c .before .before .store-span .ensures)
 
 same-length-3 : tie.Need-same-length-3
 same-length-3 c = search needs
@@ -81,8 +68,7 @@ returns-3 c =
     let f = c .before .before .before .before .before .before .before .before .before .read .ensures in
     let d = laid-out s f e in
     let z = edge-past s (q .args .edge) (sym (refusal-is s f) ∙ e) (omega (arith, d .edges, c .before .before .before .before .before .if2 .left)) in
-    shown-by s (q .args .edge) (0 ∷ 0 ∷ []) (now (q .args .span)) (sym z)
-    (span-hidden s (q .args .edge) (λ n. let w : 12 ≡ 0 = sym z ∙ n in omega arith)) (c .before .before .store3 .ensures)
+    hidden-by s (q .args .edge) (now (q .args .span)) (sym z) (λ n. omega arith) (c .before .before .store2 .ensures)
 
 pub cirbaldu-edge-spec : {M : Type 1} → statement M
 cirbaldu-edge-spec =
@@ -93,12 +79,9 @@ cirbaldu-edge-spec =
     store-requires
     same-length
     returns
-    edge-from-requires
-    edge-bytes-requires
+    store-span-requires
     slice-aggregate-store-2
     store-requires-2
-    slice-aggregate-store-3
-    store-requires-3
     same-length-2
     returns-2
     same-length-3

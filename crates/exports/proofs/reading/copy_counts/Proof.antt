@@ -1,6 +1,6 @@
 -- `copy_counts` meets its contract.
-use mathlib.Core.Path.{_≡_, sym, ap, _∙_}
-use mathlib.Core.List.{List, [], _∷_}
+use mathlib.Core.Path.{ap, _∙_}
+use mathlib.Core.List.{[], _∷_}
 use Prim.Native.Nat.{ℕ}
 use Rattle.exports.specs.Reading.{countsOf}
 use borrow.Author.Needs.{needs}
