@@ -47,20 +47,20 @@ pub record Sized (s : List ℕ) (e from to : ℕ) : Type 0 where
   pub few : tableSize (I s) e ≤ 256
 
 module _ (s : List ℕ) {l : Layout} {e : ℕ} (a : EdgeAsked s l e) where
-  pub counted : LaidOut s l
-  counted = laid s a
+  pub known : LaidOut s l
+  known = laid s a
 
   pub sized : {from to : ℕ} → from ≡ table (I s) e → to ≡ table (I s) (e + 1) → Sized s e from to
   unfolding table
   sized f t = record {
-    small = omega (arith, f, table-inside (counted .sound .proper) (there s a), counted .sound .proper .cellsFew);
+    small = omega (arith, f, table-inside (known .sound .proper) (there s a), known .sound .proper .cellsFew);
     size = t ∙ offset-more (tableSize (I s)) e ∙ ap (λ (x : ℕ). x + tableSize (I s) e) (sym f);
-    few = table-few (counted .sound .proper) (there s a);
+    few = table-few (known .sound .proper) (there s a);
   }
 
   from-by : {from : ℕ} → from ≡ table (I s) e → l .nodes + 5 * l .positions + 2 * l .edges + 4 * from ≡ edgeFrom s e
   unfolding edgeFrom first instanceOf
-  from-by f = omega (arith, counted .nodes, counted .positions, counted .edges, f)
+  from-by f = omega (arith, known .nodes, known .positions, known .edges, f)
 
   bytes-by : {from to : ℕ} → Sized s e from to → 4 * (to - from) ≡ edgeBytes s e
   unfolding edgeBytes

@@ -9,17 +9,17 @@ use Rattle.exports.specs.Stored.{storedIn, Answered, answered}
 
 -- ---- a run: the four buffers, the refusal, and the counts
 
-pub record Counted : Type 0 where
+pub record Outcome : Type 0 where
   pub buffers : Buffers
   pub refusal : ℕ
   pub counts : List ℕ
 
-abbrev pub counted : Buffers → ℕ → List ℕ → Counted
-counted b refusal counts = record { buffers = b; refusal = refusal; counts = counts }
+abbrev pub outcome : Buffers → ℕ → List ℕ → Outcome
+outcome b refusal counts = record { buffers = b; refusal = refusal; counts = counts }
 
 -- "the records done, the roundings stuck and, if it stopped, the refusal"
-unfoldable pub ranIn : Ran → List ℕ → Counted
-ranIn q counts = counted (q .buffers) (q .refusal) (storedIn 2 (q .finished ∷ q .stuck ∷ []) counts)
+unfoldable pub ranIn : Ran → List ℕ → Outcome
+ranIn q counts = outcome (q .buffers) (q .refusal) (storedIn 2 (q .finished ∷ q .stuck ∷ []) counts)
 
 -- ---- a report: its number, and four values: 1 if one is kept, the bound, the cost, the gap
 

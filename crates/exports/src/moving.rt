@@ -10,7 +10,7 @@ ghost use mathlib.Core.Path.{_≡_};
 ghost use Rattle.rules.specs.Calls.{filmOut, openOf, runOf, reportOf};
 ghost use Rattle.messages.specs.World.{lent, opens};
 ghost use Rattle.exports.specs.Stored.{answered};
-ghost use Rattle.exports.specs.Moving.{counted, ranIn, reportedIn};
+ghost use Rattle.exports.specs.Moving.{outcome, ranIn, reportedIn};
 
 // Fills the four buffers from the sheet; answers the refusal.
 #[no_mangle]
@@ -37,7 +37,7 @@ pub extern "C" fn cirbaldu_run(
     incumbent: &mut [u8],
     counts: &mut [u64],
 ) -> u8
-    ensures { λ r. ⌜ counted (lent (now (nodes .exit)) (now (labels .exit)) (now (edges .exit)) (now (incumbent .exit))) r (now (counts .exit)) ≡ ranIn (runOf (now (sheet .entry)) filmOut (lent (now (nodes .entry)) (now (labels .entry)) (now (edges .entry)) (now (incumbent .entry))) (now (records .entry))) (now (counts .entry)) ⌝ }
+    ensures { λ r. ⌜ outcome (lent (now (nodes .exit)) (now (labels .exit)) (now (edges .exit)) (now (incumbent .exit))) r (now (counts .exit)) ≡ ranIn (runOf (now (sheet .entry)) filmOut (lent (now (nodes .entry)) (now (labels .entry)) (now (edges .entry)) (now (incumbent .entry))) (now (records .entry))) (now (counts .entry)) ⌝ }
 {
     let answer = run(sheet, records, nodes, labels, edges, incumbent);
     let both = [answer.done, answer.stuck];

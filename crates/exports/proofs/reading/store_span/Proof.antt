@@ -6,13 +6,13 @@ use native.Mathlib.Omega.{arith}
 use denote.Ref.{now}
 use Rattle.instance.proofs.LaidOut.{LaidOut}
 use Rattle.exports.specs.Stored.{storedIn}
-use Rattle.exports.proofs.ShowLaws.{Sized, counted, sized, span-by}
+use Rattle.exports.proofs.ShowLaws.{Sized, known, sized, span-by}
 use borrow.Author.Needs.{needs}
 use Rattle.exports.proofs.reading.store_span.Statement.{statement}
 use Rattle.exports.proofs.reading.store_span.Tie as tie
 
 few : (q : tie.Start) → LaidOut (now (q .args .sheet)) (q .args .layout)
-few q = counted (now (q .args .sheet)) (q .pre)
+few q = known (now (q .args .sheet)) (q .pre)
 
 -- where the edge's table begins and where it ends
 module _ (p : tie.After-table-at2) where
