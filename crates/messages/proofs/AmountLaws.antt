@@ -22,7 +22,7 @@ use Rattle.instance.specs.Sheet.{instanceOf}
 use Rattle.instance.proofs.LaidOut.{row-inside}
 use Rattle.rules.specs.Places.{nodePlaces, labelPlaces}
 use Rattle.rules.specs.Calls.{filmOut}
-use Rattle.messages.specs.LabelMessage.{labelRival, nodeAmount, labelAmount, Owned, PlaceAsked}
+use Rattle.messages.specs.LabelMessage.{labelRival, nodeAmount, labelAmount, PlaceAsked}
 use Rattle.messages.proofs.RowLaws.{least-of-within, amount-none, apart-fits}
 use Rattle.messages.proofs.Sight.{proper}
 
@@ -54,9 +54,6 @@ module _ {s : List ℕ} {n ends at u k share : ℕ} (q : PlaceAsked s n ends at 
 
   pub place-in : at + k < length l
   place-in = omega (arith, row-in, q .position)
-
-  pub place-owned : Owned s u (at + k) (I .label (at + k))
-  place-owned = record { node = node-in; from = omega (arith, q .begins); to = omega (arith, q .begins, q .position); is = refl }
 
   pub node-given : amount (getD (part l at (I .degree u)) k (pos 0)) (without (part l at (I .degree u)) k) share ≡ nodeAmount I l u (at + k) share
   unfolding nodePlaces

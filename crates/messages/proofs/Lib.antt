@@ -10,6 +10,7 @@ pub mod LabelMoveLaws
 pub mod IncumbentLaws
 pub mod OverLaws
 pub mod EdgeLaws
+pub mod IndexLaws
 pub mod RivalLaws
 pub mod RoundingLaws
 pub mod RoundTurns

@@ -1,158 +1,145 @@
--- A label's other costs, node by node.
+-- A label's other costs, as the index of places by label has them.
 -- Assumes nothing.
-use mathlib.Core.Path.{_≡_, refl, sym, ap, ap₂, _∙_}
-use mathlib.Core.Bool.{Bool, not}
+use mathlib.Core.Path.{_≡_, refl, sym, ap, _∙_}
+use mathlib.Core.Bool.{Bool}
 use mathlib.Core.List.{List, [], _∷_, _++_, map}
-use Prim.Native.Nat.{ℕ, suc, _+_, _-_, _≤_, _<_}
+use Prim.Native.Nat.{ℕ, zero, suc, _+_, _-_, _≤_, _<_}
 use native.Mathlib.Omega.{arith}
-use borrow.Author.Tests.{eq-eqb, ne-eqb, eqb-true, eqb-false, ltb-true, ltb-false}
-use lib.Dec.{eqb, ltb}
-use lib.ListN.{length, getD}
+use borrow.Author.Tests.{eqb-true, eq-eqb, ne-eqb}
+use lib.Dec.{eqb}
+use lib.ListN.{length, getD, take, drop, length-append, length-take, length-drop}
+use lib.Seq.{getD-take, getD-drop}
 use lib.IntN.{ℤ, pos}
-use Rattle.integers.specs.Least.{leastFrom}
+use Rattle.integers.specs.Least.{minℤ, leastFrom}
+use Rattle.integers.specs.Rows.{part}
 use Rattle.integers.specs.Places.{range, select, others, offset}
 use Rattle.integers.proofs.Places.{by-test, range-mem}
-use Rattle.integers.proofs.Totals.{offset-le, offset-more, offset-none}
-use Rattle.integers.proofs.Ranges.{range-add, select-append, select-one, select-none}
+use Rattle.integers.proofs.Ranges.{range-add, select-append, select-none}
 use Rattle.integers.proofs.Least.{least-append}
-use Rattle.instance.specs.Bytes.{byte}
-use Rattle.instance.specs.Instance.{Instance, first}
+use Rattle.instance.specs.Instance.{Instance, first, nodeCells}
 use Rattle.instance.specs.Sheet.{instanceOf}
-use Rattle.instance.proofs.LaidOut.{row-inside}
-use Rattle.rules.specs.Places.{nodePlaces, labelPlaces}
+use Rattle.instance.proofs.LaidOut.{label-known, positions-few}
+use Rattle.rules.specs.Places.{labelPlaces}
 use Rattle.messages.specs.World.{Known}
-use Rattle.messages.specs.LabelMessage.{rivalsAt, labelRival, Owned, Found}
+use Rattle.messages.specs.Index.{having, held, Indexed, Indexable}
+use Rattle.messages.specs.LabelMessage.{labelRival}
 use Rattle.messages.proofs.RowLaws.{least-parts}
+use Rattle.messages.proofs.IndexLaws.{having-ext, indexed-ext}
 use Rattle.messages.proofs.Sight.{proper, whole, label-is}
 use Rattle.messages.proofs.LabelMoveLaws.{rises}
 
-append-map : (f : ℕ → ℤ) (k l : List ℕ) → map f (k ++ l) ≡ map f k ++ map f l
+append-map : {A : Type 0} (f : ℕ → A) (k l : List ℕ) → map f (k ++ l) ≡ map f k ++ map f l
 append-map f [] l = refl
-append-map f (x ∷ k) l = ap (λ (t : List ℤ). f x ∷ t) (append-map f k l)
+append-map {A = A} f (x ∷ k) l = ap (λ (t : List A). f x ∷ t) (append-map f k l)
 
-module _ (I : Instance) (labels : List ℤ) (i : ℕ) where
-  abbrev f : ℕ → ℤ
-  f j = getD labels j (pos 0)
+-- ---- the rivals of the place `own` in a row of the index, one after another
 
-  abbrev t : ℕ → Bool
-  t j = eqb (I .label j) (I .label i)
+module _ (f : ℕ → ℤ) (own : ℕ) (index : List ℕ) (from : ℕ) where
+  abbrev g : ℕ → ℕ
+  g j = getD index j 0
 
-  -- the least of 0 and the others of the label at the nodes below w
-  abbrev pub rivalBelow : ℕ → ℤ
-  rivalBelow w = leastFrom (pos 0) (map f (others i (select t (range 0 (first I w)))))
+  -- the least of 0 and the costs at the first n places of the row, without its own
+  abbrev pub rivalIn : ℕ → ℤ
+  rivalIn n = leastFrom (pos 0) (map f (others own (map g (range from n))))
 
-  pub rival-none : pos 0 ≡ rivalBelow 0
-  unfolding first offset range select others leastFrom
+  pub rival-none : pos 0 ≡ rivalIn 0
+  unfolding range select others leastFrom
   rival-none = refl
 
-  pub rival-more : (w : ℕ) → leastFrom (rivalBelow w) (rivalsAt I labels i w) ≡ rivalBelow (w + 1)
-  unfolding first nodePlaces others
-  rival-more w =
-      let n : ℕ → Bool = (λ j. not (eqb j i)) in
-      let z : 0 + offset (I .degree) w ≡ offset (I .degree) w = omega arith in
-      let a = map f (select n (select t (range 0 (offset (I .degree) w)))) in
-      let b = map f (select n (select t (range (offset (I .degree) w) (I .degree w)))) in
-      sym (ap (λ (k : ℕ). leastFrom (pos 0) (map f (select n (select t (range 0 k))))) (offset-more (I .degree) w)
-      ∙ ap (λ (l : List ℕ). leastFrom (pos 0) (map f (select n (select t l)))) (range-add 0 (offset (I .degree) w) (I .degree w) ∙ ap (λ (k : ℕ). range 0 (offset (I .degree) w) ++ range k (I .degree w)) z)
-      ∙ ap (λ (l : List ℕ). leastFrom (pos 0) (map f (select n l))) (select-append t (range 0 (offset (I .degree) w)) (range (offset (I .degree) w) (I .degree w)))
-      ∙ ap (λ (l : List ℕ). leastFrom (pos 0) (map f l)) (select-append n (select t (range 0 (offset (I .degree) w))) (select t (range (offset (I .degree) w) (I .degree w))))
-      ∙ ap (leastFrom (pos 0)) (append-map f (select n (select t (range 0 (offset (I .degree) w)))) (select n (select t (range (offset (I .degree) w) (I .degree w)))))
-      ∙ least-append (pos 0) a b ∙ least-parts (pos 0) a b)
+  pub rival-next : (n : ℕ) → leastFrom (rivalIn n) (map f (others own (g (from + n) ∷ []))) ≡ rivalIn (n + 1)
+  unfolding range others
+  rival-next n =
+      let a = others own (map g (range from n)) in
+      let b = others own (g (from + n) ∷ []) in
+      sym (ap (λ (l : List ℕ). leastFrom (pos 0) (map f (others own (map g l)))) (range-add from n 1)
+      ∙ ap (λ (l : List ℕ). leastFrom (pos 0) (map f (others own l))) (append-map g (range from n) ((from + n) ∷ []))
+      ∙ ap (λ (l : List ℕ). leastFrom (pos 0) (map f l)) (select-append _ (map g (range from n)) (g (from + n) ∷ []))
+      ∙ ap (leastFrom (pos 0)) (append-map f a b)
+      ∙ least-append (pos 0) (map f a) (map f b) ∙ least-parts (pos 0) (map f a) (map f b))
 
-  pub rival-all : {n : ℕ} → n ≡ I .nodeCount → rivalBelow n ≡ labelRival I labels i
-  unfolding labelPlaces
-  rival-all e = ap rivalBelow e
+-- at one place
+pub rival-own : (f : ℕ → ℤ) (b : ℤ) (own place : ℕ) → place ≡ own → leastFrom b (map f (others own (place ∷ []))) ≡ b
+unfolding others select leastFrom
+rival-own f b own place e = rw (eq-eqb place own e)
 
-first-is : (I : Instance) (x : ℕ) → first I x ≡ offset (I .degree) x
-unfolding first
-first-is I x = refl
+pub rival-other : (f : ℕ → ℤ) (b : ℤ) (own place : ℕ) → (place ≡ own → ⊥) → leastFrom b (map f (others own (place ∷ []))) ≡ minℤ (f place) b
+unfolding others select leastFrom
+rival-other f b own place d = rw (ne-eqb place own d)
 
--- ---- at one node
+-- ---- the labels can be indexed: a node has a label at most once
 
-module _ {s : List ℕ} {n ends : ℕ} (w : Known s n ends) {u i l : ℕ} (o : Owned s u i l) (labels : List ℤ) where
+-- what rises takes no value twice
+once : (f : ℕ → ℕ) (l a n : ℕ) → ((j k : ℕ) → j < k → k < n → f (a + j) < f (a + k)) → length (select (λ i. eqb (f i) l) (range a n)) ≤ 1
+unfolding range select
+once f l a zero up = omega arith
+once f l a (suc n) up =
+    let t : ℕ → Bool = (λ i. eqb (f i) l) in
+    let z : n + 1 ≡ suc n = omega arith in
+    let e : select t (range a (suc n)) ≡ select t (range a n) ++ select t ((a + n) ∷ []) = ap (λ (m : ℕ). select t (range a m)) (sym z) ∙ ap (select t) (range-add a n 1) ∙ select-append t (range a n) ((a + n) ∷ []) in
+    by-test (eqb (f (a + n)) l)
+    (λ q. let v = eqb-true (f (a + n)) l q in
+    let none : select t (range a n) ≡ [] = select-none t (range a n) (λ i m.
+    let b = range-mem a n m in
+    let y : a + (i - a) ≡ i = omega arith in
+    let r = up (i - a) n (omega arith) (omega arith) in
+    ne-eqb (f i) l (λ w. let x = ap f y in omega arith)) in
+    let c : length (select t (range a (suc n))) ≡ 1 = ap length (e ∙ ap (λ (k : List ℕ). k ++ select t ((a + n) ∷ [])) none) ∙ rw q in omega arith)
+    (λ q. let h = once f l a n (λ j k b d. up j k b (omega arith)) in
+    let c : length (select t (range a (suc n))) ≡ length (select t (range a n)) + 0 = ap length e ∙ length-append (select t (range a n)) (select t ((a + n) ∷ [])) ∙ ap (_+_ (length (select t (range a n)))) (rw q) in omega arith)
+
+-- a part of the places has no more than all
+fewer : (t : ℕ → Bool) (i n : ℕ) → i ≤ n → length (select t (range 0 i)) ≤ length (select t (range 0 n))
+fewer t i n h =
+    let z : i + (n - i) ≡ n = omega arith in
+    let e = ap (λ (m : ℕ). length (select t (range 0 m))) (sym z) ∙ ap (λ (l : List ℕ). length (select t l)) (range-add 0 i (n - i)) ∙ ap length (select-append t (range 0 i) (range (0 + i) (n - i))) ∙ length-append (select t (range 0 i)) (select t (range (0 + i) (n - i))) in
+    omega arith
+
+module _ {s : List ℕ} {n ends : ℕ} (w : Known s n ends) where
   abbrev J : Instance
   J = instanceOf s
 
-  -- the rivals at node v, where the row is searched for the label
-  module _ {v at r : ℕ} (h : v < n) (e : at ≡ first J v) (q : Found s (n + at) (J .degree v) l r) where
-    here : (j : ℕ) → j < J .degree v → eqb (J .label (first J v + j)) (J .label i) ≡ eqb j r
-    here j k =
-        ap₂ eqb (sym (ap (λ (z : ℕ). byte s z) (plus j) ∙ label-is w (first J v + j))) (sym (o .is)) ∙ q .here j k
-      where
-        plus : (j : ℕ) → n + at + j ≡ n + (first J v + j)
-        plus j = omega (arith, e)
+  -- the nodes below u have a label at most u times
+  below : (l u : ℕ) → u ≤ J .nodeCount → length (having (J .label) l (first J u)) ≤ u
+  unfolding first offset range select
+  below l zero h = omega arith
+  below l (suc u) h =
+      let t : ℕ → Bool = (λ i. eqb (J .label i) l) in
+      let a = offset (J .degree) u in
+      let z : 0 + a ≡ a = omega arith in
+      let e : length (select t (range 0 (a + J .degree u))) ≡ length (select t (range 0 a)) + length (select t (range a (J .degree u))) =
+      ap (λ (k : List ℕ). length (select t k)) (range-add 0 a (J .degree u) ∙ ap (λ (m : ℕ). range 0 a ++ range m (J .degree u)) z)
+      ∙ ap length (select-append t (range 0 a) (range a (J .degree u))) ∙ length-append (select t (range 0 a)) (select t (range a (J .degree u))) in
+      let o = once (J .label) l a (J .degree u) (λ j k b d. rises (λ x. J .label (a + x)) (J .degree u) (λ x m. proper w .rising u x (omega arith) m) j k b d) in
+      let r = below l u (omega arith) in
+      omega arith
 
-    pub rivals-none : J .degree v ≤ r → rivalsAt J labels i v ≡ []
-    unfolding nodePlaces others select
-    rivals-none g =
-        ap (λ (k : List ℕ). map (λ j. getD labels j (pos 0)) (others i k))
-        (select-none (λ j. eqb (J .label j) (J .label i)) (range (first J v) (J .degree v))
-        (λ j m. let b = range-mem (first J v) (J .degree v) m in
-        let k : first J v + (j - first J v) ≡ j = omega arith in
-        ap (λ (z : ℕ). eqb (J .label z) (J .label i)) (sym k) ∙ here (j - first J v) (omega arith) ∙ ne-eqb (j - first J v) r (λ z. omega arith)))
+  pub labels-few : (l i : ℕ) → i ≤ nodeCells J → length (having (J .label) l i) ≤ 64
+  labels-few l i h = omega (arith, fewer (λ j. eqb (J .label j) l) i (nodeCells J) h, below l (J .nodeCount) (omega arith), proper w .nodesFew)
 
-    pub rivals-one : r < J .degree v → (v ≡ u → ⊥) → rivalsAt J labels i v ≡ getD labels (at + r) (pos 0) ∷ []
-    unfolding nodePlaces others select
-    rivals-one g d =
-        ap (λ (k : List ℕ). map (λ j. getD labels j (pos 0)) (others i k)) (select-one (λ j. eqb (J .label j) (J .label i)) (first J v) (J .degree v) r g here)
-        ∙ rw (ne-eqb (first J v + r) i away) (ap (λ (z : ℕ). getD labels (z + r) (pos 0) ∷ []) (sym e))
-      where
-        starts : (x : ℕ) → first J x ≡ offset (J .degree) x
-        starts x = first-is J x
+  -- they stand together in the sheet
+  abbrev pub labelBytes : List ℕ
+  labelBytes = take (nodeCells J) (drop n s)
 
-        -- the place of another node is another place
-        away : first J v + r ≡ i → ⊥
-        away z =
-            by-test (ltb v u)
-            (λ t. let a = offset-le (J .degree) v u (ltb-true v u t) in omega (arith, o .from, starts v, starts u))
-            (λ t. let a = offset-le (J .degree) u v (omega (arith, ltb-false v u t)) in omega (arith, o .to, starts v, starts u))
+  key-is : (i : ℕ) → i < nodeCells J → getD labelBytes i 0 ≡ J .label i
+  key-is i h = getD-take (nodeCells J) (drop n s) i 0 h ∙ getD-drop n s i 0 ∙ label-is w i
 
-  -- at the place's own node there is no rival: its labels rise, so no other place has this one
-  pub rivals-own : rivalsAt J labels i u ≡ []
-  unfolding nodePlaces others select
-  rivals-own =
-      ap (λ (k : List ℕ). map (λ j. getD labels j (pos 0)) (others i k)) (select-one (λ j. eqb (J .label j) (J .label i)) (first J u) (J .degree u) (i - first J u) (omega (arith, o .from, o .to)) own)
-      ∙ rw (eq-eqb (first J u + (i - first J u)) i (omega (arith, o .from)))
-    where
-      back : first J u + (i - first J u) ≡ i
-      back = omega (arith, o .from)
+  key-count : length labelBytes ≡ nodeCells J
+  key-count = simp (length-take, length-drop) (omega (arith, w .nodes, whole w .whole))
 
-      mine : (j : ℕ) → J .label (first J u + (i - first J u)) ≡ J .label i
-      mine j = ap (J .label) back
+  pub labels-indexable : Indexable labelBytes
+  labels-indexable = record {
+    short = omega (arith, key-count, positions-few (proper w));
+    small = λ i h. let k : i < nodeCells J = omega (arith, key-count) in omega (arith, key-is i k, label-known (proper w) i k, proper w .labelsFew);
+    roomy = λ l i h. let k : i ≤ nodeCells J = omega (arith, key-count) in omega (arith, ap length (having-ext (λ j. getD labelBytes j 0) (J .label) i (λ j b. key-is j (omega arith)) l), labels-few l i k);
+  }
 
-      up : (j k : ℕ) → j < k → k < J .degree u → J .label (first J u + j) < J .label (first J u + k)
-      up j k l m = rises (λ x. J .label (first J u + x)) (J .degree u) (λ x h. proper w .rising u x (o .node) h) j k l m
+  pub labels-indexed : {index : List ℕ} → Indexed (λ j. getD labelBytes j 0) (length labelBytes) index → Indexed (J .label) (nodeCells J) index
+  labels-indexed x = indexed-ext key-count (λ i h. key-is i (omega (arith, key-count))) x
 
-      own : (j : ℕ) → j < J .degree u → eqb (J .label (first J u + j)) (J .label i) ≡ eqb j (i - first J u)
-      own j l =
-          let k = i - first J u in
-          let m = mine j in
-          by-test (eqb j k)
-          (λ t. let q : j ≡ k = eqb-true j k t in eq-eqb (J .label (first J u + j)) (J .label i) (ap (λ (x : ℕ). J .label (first J u + x)) q ∙ m) ∙ sym t)
-          (λ t. let q : j ≡ k → ⊥ = eqb-false j k t in by-test (ltb j k)
-          (λ a. let b = up j k (ltb-true j k a) (omega (arith, o .from, o .to)) in ne-eqb (J .label (first J u + j)) (J .label i) (λ z. omega arith) ∙ sym t)
-          (λ a. let b = up k j (omega (arith, ltb-false j k a)) l in ne-eqb (J .label (first J u + j)) (J .label i) (λ z. omega arith) ∙ sym t))
+-- ---- the rivals by the index are the label's others
 
--- ---- the rows of nodes, as the code goes through them
-
-pub first-more : (I : Instance) (v : ℕ) → first I v + I .degree v ≡ first I (v + 1)
-unfolding first
-first-more I v = sym (offset-more (I .degree) v)
-
-module _ {s : List ℕ} {n ends : ℕ} (w : Known s n ends) where
-  pub first-none : 0 ≡ first (instanceOf s) 0
-  unfolding first
-  first-none = sym (offset-none (instanceOf s .degree))
-
-  module _ {v at : ℕ} (h : v < n) (e : at ≡ first (instanceOf s) v) where
-    inner : v < instanceOf s .nodeCount
-    inner = omega (arith, w .nodes)
-
-    pub row-room : n + at + instanceOf s .degree v ≤ length s
-    row-room = omega (arith, w .nodes, whole w .whole, row-inside (proper w) inner)
-
-    pub row-rises : (j : ℕ) → suc j < instanceOf s .degree v → byte s (n + at + j) < byte s (n + at + suc j)
-    row-rises j k =
-        let p : (x : ℕ) → byte s (n + at + x) ≡ instanceOf s .label (first (instanceOf s) v + x) = (λ x. let z : n + at + x ≡ n + (first (instanceOf s) v + x) = omega arith in ap (byte s) z ∙ label-is w (first (instanceOf s) v + x)) in
-        let r = proper w .rising v j inner k in
-        omega (arith, p j, p (suc j))
+pub rival-is : (I : Instance) {index : List ℕ} → Indexed (I .label) (nodeCells I) index → (labels : List ℤ) (i l : ℕ) → l < 64 → l ≡ I .label i
+    → leastFrom (pos 0) (map (λ j. getD labels j (pos 0)) (others i (held index l))) ≡ labelRival I labels i
+unfolding labelPlaces
+rival-is I {index} x labels i l h e =
+    ap (λ (k : List ℕ). leastFrom (pos 0) (map (λ j. getD labels j (pos 0)) (others i k))) (x .rows l h ∙ ap (λ (m : ℕ). having (I .label) m (nodeCells I)) e)

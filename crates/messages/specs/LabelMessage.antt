@@ -3,21 +3,20 @@ use mathlib.Core.Path.{_≡_}
 use mathlib.Core.Bool.{cond, _&&_}
 use mathlib.Core.List.{List, _∷_, map}
 use Prim.Native.Nat.{ℕ, _+_, _≤_, _<_}
-use lib.Dec.{eqb}
 use lib.ListN.{length, getD}
 use lib.IntN.{ℤ, pos, negℤ, _+ℤ_}
 use Rattle.integers.specs.Least.{leastFrom}
 use Rattle.integers.specs.Share.{amount}
 use Rattle.integers.specs.Sum.{Within}
 use Rattle.integers.specs.Rows.{addAt}
-use Rattle.integers.specs.Places.{others, select}
+use Rattle.integers.specs.Places.{others}
 use Rattle.integers.specs.Checks.{within}
-use Rattle.instance.specs.Bytes.{byte}
 use Rattle.instance.specs.Instance.{Instance, first, nodeCells}
 use Rattle.instance.specs.Sheet.{instanceOf}
 use Rattle.rules.specs.Places.{nodePlaces, labelPlaces}
 use Rattle.rules.specs.Calls.{filmOut}
 use Rattle.messages.specs.World.{Known}
+use Rattle.messages.specs.Index.{Indexed}
 
 -- node and label costs that a move leaves, with its refusal: 0, or 13 where a cost would pass the limit and nothing is written
 pub record Moved : Type 0 where
@@ -39,21 +38,9 @@ labelMoved nodes labels i p =
 abbrev pub labelRival : Instance → List ℤ → ℕ → ℤ
 labelRival I labels i = leastFrom (pos 0) (map (λ j. getD labels j (pos 0)) (others i (labelPlaces I (I .label i))))
 
--- those of them that stand at node w
-abbrev pub rivalsAt : Instance → List ℤ → ℕ → ℕ → List ℤ
-rivalsAt I labels i w = map (λ j. getD labels j (pos 0)) (others i (select (λ j. eqb (I .label j) (I .label i)) (nodePlaces I w)))
-
--- the place i is one of node u's, and has this label
-pub record Owned (s : List ℕ) (u i label : ℕ) : Type 0 where
-  pub node : u < instanceOf s .nodeCount
-  pub from : first (instanceOf s) u ≤ i
-  pub to : i < first (instanceOf s) u + instanceOf s .degree u
-  pub is : label ≡ instanceOf s .label i
-
--- r is the one position of a row of rising labels that has the label, or the degree where none has
-pub record Found (s : List ℕ) (at degree label r : ℕ) : Type 0 where
-  pub upto : r ≤ degree
-  pub here : (j : ℕ) → j < degree → eqb (byte s (at + j)) label ≡ eqb j r
+-- the index of the places by their labels
+abbrev pub Holders : List ℕ → List ℕ → Type 0
+Holders s holders = Indexed (instanceOf s .label) (nodeCells (instanceOf s)) holders
 
 -- what the node cost at the place i gives against the node's others, and the label cost there against 0 and the label's others
 abbrev pub nodeAmount : Instance → List ℤ → ℕ → ℕ → ℕ → ℤ

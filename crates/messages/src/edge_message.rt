@@ -186,10 +186,10 @@ pub(crate) fn row_fits(row: &[i64], amounts: &[i64; 16]) -> bool
     requires { ⌜ Within (2 ^ 41) (now amounts) ⌝ }
     ensures { λ r. ⌜ r ≡ every (within filmOut) (movedRow (now (amounts .entry)) (now (row .entry))) ⌝ }
 {
-    let mut k = 0;
-    while k < row.len() {
-        if less_fits(row[k], amounts[k]) {
-            k += 1;
+    let mut place = 0;
+    while place < row.len() {
+        if less_fits(row[place], amounts[place]) {
+            place += 1;
         } else {
             return false;
         }

@@ -1,4 +1,5 @@
 // Messages between a node and a label: kinds 3 and 4.
+use crate::index::number;
 use crate::rows::amount_of;
 use crate::rows::in_range;
 use crate::rows::minus;
@@ -9,24 +10,18 @@ use crate::world::wide;
 use instance::refusal::COST_OVERFLOW;
 use instance::refusal::NONE;
 ghost use mathlib.Core.Path.{_≡_};
-ghost use Prim.Native.Nat.{ℕ, suc, _+_, _*_, _^_, _≤_, _<_};
+ghost use mathlib.Core.List.{[], _∷_, map};
+ghost use Prim.Native.Nat.{ℕ, _+_, _*_, _^_, _≤_, _<_};
 ghost use lib.ListN.{length, getD};
 ghost use lib.IntN.{pos, negℤ, natAbs};
 ghost use Rattle.integers.specs.Least.{leastFrom};
 ghost use Rattle.integers.specs.Sum.{Within};
-ghost use Rattle.instance.specs.Bytes.{byte};
+ghost use Rattle.integers.specs.Places.{others};
 ghost use Rattle.instance.specs.Sheet.{instanceOf};
-ghost use Rattle.instance.specs.Instance.{first, nodeCells};
+ghost use Rattle.instance.specs.Instance.{nodeCells};
 ghost use Rattle.rules.specs.Calls.{filmOut};
-ghost use Rattle.messages.specs.World.{Known, Seen, Fit};
-ghost use Rattle.messages.specs.LabelMessage.{labelMoved, labelMove, rivalsAt, labelRival, nodeAmount, labelAmount, Owned, Found, PlaceAsked, LabelFit};
-
-// A place with its node and its label.
-struct Own {
-    node: usize,
-    place: usize,
-    label: usize,
-}
+ghost use Rattle.messages.specs.Index.{many, held};
+ghost use Rattle.messages.specs.LabelMessage.{labelMoved, labelMove, nodeAmount, labelAmount, PlaceAsked, LabelFit, Holders};
 
 // Moves `p` from the node cost to the label cost at the place `i`, where both stay within the limit.
 fn shift_label(nodes: &mut [i64], labels: &mut [i64], i: usize, p: i64) -> u8
@@ -48,69 +43,31 @@ fn shift_label(nodes: &mut [i64], labels: &mut [i64], i: usize, p: i64) -> u8
     COST_OVERFLOW
 }
 
-// The position of `label` in a row of rising labels, or the degree where it is not there.
-fn find_label(sheet: &[u8], at: usize, degree: usize, label: usize) -> usize
-    requires { ⌜ at + degree ≤ length (now sheet) ⌝ }
-    requires { ⌜ ((j : ℕ) → suc j < degree → byte (now sheet) (at + j) < byte (now sheet) (at + suc j)) ⌝ }
-    ensures { λ r. ⌜ Found (now (sheet .entry)) at degree label r ⌝ }
+// The less of `best` and the label cost at a place, unless the place is `own`.
+fn meet(labels: &[i64], place: usize, own: usize, best: i64) -> i64
+    requires { ⌜ place < length (now labels) ⌝ }
+    ensures { λ r. ⌜ r ≡ leastFrom best (map (λ j. getD (now (labels .entry)) j (pos 0)) (others own (place ∷ []))) ⌝ }
 {
-    let mut k = 0;
-    while k < degree {
-        let here = wide(sheet[at + k]);
-        if here == label {
-            return k;
-        }
-        if label < here {
-            return degree;
-        }
-        k += 1;
-    }
-    degree
-}
-
-// The least of `best` and node `w`'s cost of the label, unless `w` is the node `u` of the place itself.
-fn meet_label(
-    sheet: &[u8],
-    n: usize,
-    ends: usize,
-    labels: &[i64],
-    w: usize,
-    at: usize,
-    own: Own,
-    best: i64,
-) -> i64
-    requires { ⌜ Known (now sheet) n ends ⌝ }
-    requires { ⌜ length (now labels) ≡ nodeCells (instanceOf (now sheet)) ⌝ }
-    requires { ⌜ (w < n) × (at ≡ first (instanceOf (now sheet)) w) ⌝ }
-    requires { ⌜ Owned (now sheet) (own .node) (own .place) (own .label) ⌝ }
-    ensures { λ r. ⌜ r ≡ leastFrom best (rivalsAt (instanceOf (now (sheet .entry))) (now (labels .entry)) (own .place) w) ⌝ }
-{
-    if w == own.node {
-        return best;
-    }
-    let degree = wide(sheet[w]);
-    let j = find_label(sheet, n + at, degree, own.label);
-    if j < degree {
-        smaller(labels[at + j], best)
-    } else {
+    if place == own {
         best
+    } else {
+        smaller(labels[place], best)
     }
 }
 
-// The least of 0 and the label's costs at other nodes.
-fn label_rival(sheet: &[u8], n: usize, ends: usize, labels: &[i64], own: Own) -> i64
-    requires { ⌜ Known (now sheet) n ends ⌝ }
-    requires { ⌜ length (now labels) ≡ nodeCells (instanceOf (now sheet)) ⌝ }
-    requires { ⌜ Owned (now sheet) (own .node) (own .place) (own .label) ⌝ }
-    ensures { λ r. ⌜ r ≡ labelRival (instanceOf (now (sheet .entry))) (now (labels .entry)) (own .place) ⌝ }
+// The least of 0 and the label's costs at other places than `own`. `holders` is the index of places by label.
+fn label_rival(labels: &[i64], holders: &[u16; 4160], label: usize, own: usize) -> i64
+    requires { ⌜ (label < 64) × (many (now holders) label ≤ 64) ⌝ }
+    requires { ⌜ ((j : ℕ) → j < many (now holders) label → getD (now holders) (65 * label + 1 + j) 0 < length (now labels)) ⌝ }
+    ensures { λ r. ⌜ r ≡ leastFrom (pos 0) (map (λ j. getD (now (labels .entry)) j (pos 0)) (others own (held (now (holders .entry)) label))) ⌝ }
 {
+    let row = 65 * label;
+    let end = row + 1 + number(holders[row]);
     let mut best = 0;
-    let mut at = 0;
-    let mut w = 0;
-    while w < n {
-        best = meet_label(sheet, n, ends, labels, w, at, own, best);
-        at += wide(sheet[w]);
-        w += 1;
+    let mut at = row + 1;
+    while at < end {
+        best = meet(labels, number(holders[at]), own, best);
+        at += 1;
     }
     best
 }
@@ -140,6 +97,7 @@ fn label_amount(
     sheet: &[u8],
     n: usize,
     ends: usize,
+    holders: &[u16; 4160],
     at: usize,
     labels: &[i64],
     u: usize,
@@ -147,18 +105,15 @@ fn label_amount(
     share: u8,
 ) -> i64
     requires { ⌜ PlaceAsked (now sheet) n ends at u k share ⌝ }
+    requires { ⌜ Holders (now sheet) (now holders) ⌝ }
     requires { ⌜ length (now labels) ≡ nodeCells (instanceOf (now sheet)) ⌝ }
     requires { ⌜ Within filmOut (now labels) ⌝ }
     ensures { λ r. ⌜ r ≡ labelAmount (instanceOf (now (sheet .entry))) (now (labels .entry)) (at + k) share ⌝ }
 {
     let place = at + k;
-    let own = Own {
-        node: u,
-        place,
-        label: wide(sheet[n + place]),
-    };
+    let label = wide(sheet[n + place]);
     share_of(
-        minus(labels[place], label_rival(sheet, n, ends, labels, own)),
+        minus(labels[place], label_rival(labels, holders, label, place)),
         share,
     )
 }
@@ -188,6 +143,7 @@ pub(crate) fn label_to_node(
     sheet: &[u8],
     n: usize,
     ends: usize,
+    holders: &[u16; 4160],
     at: usize,
     nodes: &mut [i64],
     labels: &mut [i64],
@@ -196,9 +152,10 @@ pub(crate) fn label_to_node(
     share: u8,
 ) -> u8
     requires { ⌜ PlaceAsked (now sheet) n ends at u k share ⌝ }
+    requires { ⌜ Holders (now sheet) (now holders) ⌝ }
     requires { ⌜ LabelFit (now sheet) (now nodes) (now labels) ⌝ }
     ensures { λ r. ⌜ labelMove r (now (nodes .exit)) (now (labels .exit)) ≡ labelMoved (now (nodes .entry)) (now (labels .entry)) (at + k) (negℤ (labelAmount (instanceOf (now (sheet .entry))) (now (labels .entry)) (at + k) share)) ⌝ }
 {
-    let p = label_amount(sheet, n, ends, at, labels, u, k, share);
+    let p = label_amount(sheet, n, ends, holders, at, labels, u, k, share);
     shift_label(nodes, labels, at + k, minus(0, p))
 }

@@ -5,6 +5,7 @@ mod edge_message;
 mod edge_record;
 mod filling;
 mod incumbent;
+mod index;
 mod label_message;
 mod lent;
 mod list;

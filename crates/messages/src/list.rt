@@ -1,5 +1,6 @@
 // A list of records, run one by one up to the first that is refused.
 use crate::answers::Answer;
+use crate::index::index_by;
 use crate::lent::lent_refusal;
 use crate::turn::next_record;
 use instance::Layout;
@@ -15,6 +16,7 @@ ghost use Rattle.rules.specs.Run.{runList};
 ghost use Rattle.rules.specs.Calls.{filmOut, lentRefusal, runOf};
 ghost use Rattle.messages.specs.World.{lent, Seen};
 ghost use Rattle.messages.specs.Incumbent.{Priced};
+ghost use Rattle.messages.specs.LabelMessage.{Holders};
 ghost use Rattle.messages.specs.Turn.{Good};
 ghost use Rattle.messages.specs.Answers.{ranAs};
 
@@ -25,6 +27,7 @@ fn run_all(
     ends: usize,
     starts: &[usize; 64],
     tables: &[usize; 256],
+    holders: &[u16; 4160],
     prices: usize,
     cells: usize,
     count: usize,
@@ -35,6 +38,7 @@ fn run_all(
     incumbent: &mut [u8],
 ) -> Answer
     requires { ⌜ Seen (now sheet) n ends (now starts) (now tables) ⌝ }
+    requires { ⌜ Holders (now sheet) (now holders) ⌝ }
     requires { ⌜ Priced (now sheet) prices cells count ⌝ }
     requires { ⌜ Good (now sheet) (lent (now nodes) (now labels) (now edges) (now incumbent)) ⌝ }
     requires { ⌜ length (now records) % 5 ≡ 0 ⌝ }
@@ -50,6 +54,7 @@ fn run_all(
             ends,
             starts,
             tables,
+            holders,
             prices,
             cells,
             count,
@@ -99,12 +104,14 @@ fn run_good(
     let cells = ends + 2 * count;
     let starts = layout.starts;
     let tables = layout.tables;
+    let holders = index_by(&sheet[n..prices]);
     run_all(
         sheet,
         n,
         ends,
         &starts,
         &tables,
+        &holders,
         prices,
         cells,
         count,

@@ -10,7 +10,7 @@ ghost use mathlib.Core.Path.{_≡_};
 ghost use Rattle.instance.specs.Sheet.{instanceOf};
 ghost use Rattle.rules.specs.Run.{legalShare, legalEdge, legalPosition};
 ghost use Rattle.messages.specs.World.{Known, Seen};
-ghost use Rattle.messages.specs.LabelMessage.{labelMove, LabelFit};
+ghost use Rattle.messages.specs.LabelMessage.{labelMove, LabelFit, Holders};
 ghost use Rattle.messages.specs.EdgeRecord.{edgeMove};
 ghost use Rattle.messages.specs.Records.{labelTaken, edgeTaken, EdgeFit};
 
@@ -107,6 +107,7 @@ pub(crate) fn label_record(
     ends: usize,
     starts: &[usize; 64],
     tables: &[usize; 256],
+    holders: &[u16; 4160],
     nodes: &mut [i64],
     labels: &mut [i64],
     turned: bool,
@@ -115,13 +116,14 @@ pub(crate) fn label_record(
     share: u8,
 ) -> u8
     requires { ⌜ Seen (now sheet) n ends (now starts) (now tables) ⌝ }
+    requires { ⌜ Holders (now sheet) (now holders) ⌝ }
     requires { ⌜ LabelFit (now sheet) (now nodes) (now labels) ⌝ }
     ensures { λ r. ⌜ labelMove r (now (nodes .exit)) (now (labels .exit)) ≡ labelTaken (instanceOf (now (sheet .entry))) (now (nodes .entry)) (now (labels .entry)) turned u k share ⌝ }
 {
     if legal_position(sheet, n, ends, u, k, share) {
         let at = starts[u];
         if turned {
-            label_to_node(sheet, n, ends, at, nodes, labels, u, k, share)
+            label_to_node(sheet, n, ends, holders, at, nodes, labels, u, k, share)
         } else {
             node_to_label(sheet, n, ends, at, nodes, labels, u, k, share)
         }

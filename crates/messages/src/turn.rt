@@ -14,6 +14,7 @@ ghost use Rattle.rules.specs.Run.{kindOf, effect};
 ghost use Rattle.rules.specs.Calls.{filmOut};
 ghost use Rattle.messages.specs.World.{lent, Seen, Fit};
 ghost use Rattle.messages.specs.Incumbent.{Priced};
+ghost use Rattle.messages.specs.LabelMessage.{Holders};
 ghost use Rattle.messages.specs.Step.{settle, settled};
 ghost use Rattle.messages.specs.Turn.{Good};
 
@@ -24,6 +25,7 @@ fn message(
     ends: usize,
     starts: &[usize; 64],
     tables: &[usize; 256],
+    holders: &[u16; 4160],
     count: usize,
     nodes: &mut [i64],
     labels: &mut [i64],
@@ -34,6 +36,7 @@ fn message(
     share: u8,
 ) -> u8
     requires { ⌜ Seen (now sheet) n ends (now starts) (now tables) ⌝ }
+    requires { ⌜ Holders (now sheet) (now holders) ⌝ }
     requires { ⌜ count ≡ instanceOf (now sheet) .edgeCount ⌝ }
     requires { ⌜ Fit (now sheet) (now nodes) (now labels) (now edges) ⌝ }
     requires { ⌜ (1 ≤ kind) × (kind < 5) ⌝ }
@@ -63,6 +66,7 @@ fn message(
             ends,
             starts,
             tables,
+            holders,
             nodes,
             labels,
             turned,
@@ -87,6 +91,7 @@ fn one_record(
     ends: usize,
     starts: &[usize; 64],
     tables: &[usize; 256],
+    holders: &[u16; 4160],
     prices: usize,
     cells: usize,
     count: usize,
@@ -100,6 +105,7 @@ fn one_record(
     share: u8,
 ) -> Taken
     requires { ⌜ Seen (now sheet) n ends (now starts) (now tables) ⌝ }
+    requires { ⌜ Holders (now sheet) (now holders) ⌝ }
     requires { ⌜ Priced (now sheet) prices cells count ⌝ }
     requires { ⌜ Good (now sheet) (lent (now nodes) (now labels) (now edges) (now incumbent)) ⌝ }
     ensures { λ r. ⌜ settle (lent (now (nodes .exit)) (now (labels .exit)) (now (edges .exit)) (now (incumbent .exit))) (r .stuck) (r .refusal) ≡ settled (lent (now (nodes .entry)) (now (labels .entry)) (now (edges .entry)) (now (incumbent .entry))) (effect (instanceOf (now (sheet .entry))) filmOut (lent (now (nodes .entry)) (now (labels .entry)) (now (edges .entry)) (now (incumbent .entry))) (kindOf kind) u index share) ⌝ }
@@ -134,6 +140,7 @@ fn one_record(
         ends,
         starts,
         tables,
+        holders,
         count,
         nodes,
         labels,
@@ -152,6 +159,7 @@ pub(crate) fn next_record(
     ends: usize,
     starts: &[usize; 64],
     tables: &[usize; 256],
+    holders: &[u16; 4160],
     prices: usize,
     cells: usize,
     count: usize,
@@ -162,6 +170,7 @@ pub(crate) fn next_record(
     incumbent: &mut [u8],
 ) -> Taken
     requires { ⌜ Seen (now sheet) n ends (now starts) (now tables) ⌝ }
+    requires { ⌜ Holders (now sheet) (now holders) ⌝ }
     requires { ⌜ Priced (now sheet) prices cells count ⌝ }
     requires { ⌜ Good (now sheet) (lent (now nodes) (now labels) (now edges) (now incumbent)) ⌝ }
     requires { ⌜ 5 ≤ length (now bytes) ⌝ }
@@ -175,6 +184,7 @@ pub(crate) fn next_record(
         ends,
         starts,
         tables,
+        holders,
         prices,
         cells,
         count,

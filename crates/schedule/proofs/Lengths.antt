@@ -17,27 +17,13 @@ use Rattle.instance.specs.Instance.{Instance, first, nodeCells}
 use Rattle.instance.specs.Readable.{Proper}
 use Rattle.instance.proofs.LaidOut.{low-inside}
 use Rattle.schedule.specs.Sweep.{Entry, entry, bytes, each, falling, fromEdges, toEdges, toLabels, fromLabel, rounding, toLower, toHigher, positions, labelled, forwardAt, forward, labelAt, backwardAt, backward, sweep, sweepRecords, sweepLength}
-use Rattle.schedule.proofs.WritingLaws.{length-bytes}
+use Rattle.schedule.proofs.WritingLaws.{length-bytes, length-map, length-range, length-toEdges}
 use Rattle.schedule.proofs.CountLaws.{select-few, offset-ext, offset-add, offset-swap, by-value}
 
 -- ---- parts
 
 pub mem-below : {n i : ℕ} → Mem i (range 0 n) → i < n
 mem-below {n} m = omega (arith, range-mem 0 n m .1)
-
-length-map : (f : ℕ → Entry) (l : List ℕ) → length (map f l) ≡ length l
-length-map f [] = refl
-length-map f (i ∷ l) = ap suc (length-map f l)
-
-pub length-range : (a n : ℕ) → length (range a n) ≡ n
-unfolding range
-length-range a zero = refl
-length-range a (suc n) = ap suc (length-range (suc a) n)
-
-pub length-toEdges : (u q : ℕ) (l : List ℕ) → length (toEdges u q l) ≡ length l
-unfolding toEdges
-length-toEdges u q [] = refl
-length-toEdges u q (e ∷ l) = ap suc (length-toEdges u _ l)
 
 each-append : (f : ℕ → List Entry) (k l : List ℕ) → length (each f (k ++ l)) ≡ length (each f k) + length (each f l)
 unfolding each

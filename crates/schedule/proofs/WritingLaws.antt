@@ -3,7 +3,7 @@
 use mathlib.Core.Path.{_≡_, refl, sym, ap, ap₂, subst, _∙_}
 use mathlib.Core.Bool.{Bool, true, false}
 use mathlib.Core.List.{List, [], _∷_, _++_, map, append-nil}
-use Prim.Native.Nat.{ℕ, suc, _+_, _-_, _*_, _/_, _%_, _≤_, _<_}
+use Prim.Native.Nat.{ℕ, zero, suc, _+_, _-_, _*_, _/_, _%_, _≤_, _<_}
 use native.Mathlib.Numerals.{add-one}
 use native.Mathlib.Omega.{arith}
 use lib.ListN.{length, set, length-append, drop-of-length-le}
@@ -28,6 +28,25 @@ sets-append : (out : List ℕ) (at : ℕ) (k l : List ℕ) → sets out at (k ++
 sets-append out at [] l = let e : at ≡ at + 0 = omega arith in ap (λ (i : ℕ). sets out i l) e
 sets-append out at (b ∷ k) l = let e : suc at + length k ≡ at + suc (length k) = omega arith in
     sets-append (set out at b) (suc at) k l ∙ ap (λ (i : ℕ). sets (sets (set out at b) (suc at) k) i l) e
+
+-- ---- how many records
+
+pub length-map : (f : ℕ → Entry) (l : List ℕ) → length (map f l) ≡ length l
+length-map f [] = refl
+length-map f (i ∷ l) = ap suc (length-map f l)
+
+pub length-range : (a n : ℕ) → length (range a n) ≡ n
+unfolding range
+length-range a zero = refl
+length-range a (suc n) = ap suc (length-range (suc a) n)
+
+pub length-toEdges : (u q : ℕ) (l : List ℕ) → length (toEdges u q l) ≡ length l
+unfolding toEdges
+length-toEdges u q [] = refl
+length-toEdges u q (e ∷ l) = ap suc (length-toEdges u _ l)
+
+pub room-as : {out : List ℕ} {at a b : ℕ} → a ≡ b → Room out at a → Room out at b
+room-as e r = record { fits = omega (arith, e, r .fits) }
 
 -- ---- writing
 
@@ -60,24 +79,24 @@ module _ {out₀ : List ℕ} {at₀ : ℕ} {whole : List Entry} {out : List ℕ}
   writing-size l w = sym (length-sets out at (bytes l)) ∙ ap length (w .content) ∙ length-sets out₀ at₀ (bytes whole)
 
   -- there is room for it
-  pub writing-room : (k l : List Entry) → Writing out₀ at₀ whole out at (k ++ l) → Room out₀ at₀ whole → Room out at k
+  pub writing-room : (k l : List Entry) → Writing out₀ at₀ whole out at (k ++ l) → Room out₀ at₀ (length whole) → Room out at (length k)
   writing-room k l w h = record { fits = omega (arith, w .place, writing-size (k ++ l) w, length-append k l, h .fits) }
 
 -- ---- one list after another
 
 module _ (k l : List Entry) {out : List ℕ} {at : ℕ} where
-  pub room-left : Room out at (k ++ l) → Room out at k
+  pub room-left : Room out at (length (k ++ l)) → Room out at (length k)
   room-left r = record { fits = omega (arith, length-append k l, r .fits) }
 
   module _ {out′ : List ℕ} {at′ : ℕ} (w : Wrote out at k out′ at′) where
-    pub room-right : Room out at (k ++ l) → Room out′ at′ l
+    pub room-right : Room out at (length (k ++ l)) → Room out′ at′ (length l)
     room-right r = record { fits = omega (arith, length-append k l, w .place, writing-size [] w, r .fits) }
 
     pub wrote-append : {out″ : List ℕ} {at″ : ℕ} → Wrote out′ at′ l out″ at″ → Wrote out at (k ++ l) out″ at″
     wrote-append v = writing-more l [] (writing-as (sym (append-nil l)) (writing-more k l (writing-start out at (k ++ l)) w)) v
 
 -- a whole buffer
-pub room-whole : {out : List ℕ} (l : List Entry) → length out ≡ length (bytes l) → Room out 0 l
+pub room-whole : {out : List ℕ} (l : List Entry) → length out ≡ length (bytes l) → Room out 0 (length l)
 room-whole l e = record { fits = omega (arith, e, length-bytes l) }
 
 pub wrote-all : {out out′ : List ℕ} {at′ : ℕ} (l : List Entry) → Wrote out 0 l out′ at′ → length out ≡ length (bytes l) → out′ ≡ bytes l
@@ -124,9 +143,12 @@ pub each-end : (f : ℕ → List Entry) {n i : ℕ} → n ≤ i → each f (onwa
 unfolding each
 each-end f h = ap (each f) (onward-end h)
 
-pub each-falling : (f : ℕ → List Entry) {i : ℕ} → 0 < i → each f (falling i) ≡ f (i - 1) ++ each f (falling (i - 1))
+pub each-falling : (f : ℕ → List Entry) {i j : ℕ} → i ≡ suc j → each f (falling i) ≡ f j ++ each f (falling j)
 unfolding each falling
-each-falling f {i} h = let e : i ≡ suc (i - 1) = omega arith in ap (λ (k : ℕ). each f (falling k)) e
+each-falling f e = ap (λ (k : ℕ). each f (falling k)) e
+
+pub falling-none : (f : ℕ → List Entry) (n : ℕ) → each f (falling n) ≡ each f (falling (n - 0))
+falling-none f n = let e : n ≡ n - 0 = omega arith in ap (λ (k : ℕ). each f (falling k)) e
 
 -- one that passes a test, and one that does not
 pub select-hit : (t : ℕ → Bool) {n i : ℕ} → i < n → t i ≡ true → select t (onward n i) ≡ i ∷ select t (onward n (i + 1))
@@ -148,7 +170,7 @@ module _ (t : ℕ → Bool) (f : ℕ → Entry) where
   turns-start n out at = writing-as (ap (λ (l : List ℕ). map f (select t l)) (onward-start n)) (writing-start out at (map f (select t (range 0 n))))
 
   module _ {out₀ : List ℕ} {at₀ : ℕ} {whole : List Entry} {out : List ℕ} {at n i : ℕ} (w : Writing out₀ at₀ whole out at (map f (select t (onward n i)))) where
-    pub turns-room : i < n → t i ≡ true → Room out₀ at₀ whole → Room out at (f i ∷ [])
+    pub turns-room : i < n → t i ≡ true → Room out₀ at₀ (length whole) → Room out at 1
     turns-room h e r = writing-room (f i ∷ []) (map f (select t (onward n (i + 1)))) (writing-as (ap (map f) (select-hit t h e)) w) r
 
     pub turns-hit : {out′ : List ℕ} {at′ : ℕ} → i < n → t i ≡ true → Wrote out at (f i ∷ []) out′ at′ → Writing out₀ at₀ whole out′ at′ (map f (select t (onward n (i + 1))))
@@ -171,7 +193,7 @@ module _ (t : ℕ → Bool) (u : ℕ) where
     unfolding toEdges
     first h e = writing-as (ap (toEdges u q) (select-hit t h e)) w
 
-    pub shares-room : i < n → t i ≡ true → Room out₀ at₀ whole → Room out at (entry 1 u i q ∷ [])
+    pub shares-room : i < n → t i ≡ true → Room out₀ at₀ (length whole) → Room out at 1
     shares-room h e r = writing-room (entry 1 u i q ∷ []) (toEdges u (q - 1) (select t (onward n (i + 1)))) (first h e) r
 
     pub shares-hit : {out′ : List ℕ} {at′ : ℕ} → i < n → t i ≡ true → Wrote out at (entry 1 u i q ∷ []) out′ at′ → Writing out₀ at₀ whole out′ at′ (toEdges u (q - 1) (select t (onward n (i + 1))))
@@ -198,7 +220,7 @@ counted-end t h = ap length (select-end t h)
 -- ---- a loop that writes a list for each number, rising or falling
 
 module _ (f : ℕ → List Entry) {out₀ : List ℕ} {at₀ : ℕ} {whole : List Entry} {out : List ℕ} {at : ℕ} where
-  pub rising-room : {n i : ℕ} → Writing out₀ at₀ whole out at (each f (onward n i)) → i < n → Room out₀ at₀ whole → Room out at (f i)
+  pub rising-room : {n i : ℕ} → Writing out₀ at₀ whole out at (each f (onward n i)) → i < n → Room out₀ at₀ (length whole) → Room out at (length (f i))
   rising-room {n} {i} w h r = writing-room (f i) (each f (onward n (i + 1))) (writing-as (each-more f h) w) r
 
   pub rising-more : {n i : ℕ} {out′ : List ℕ} {at′ : ℕ} → Writing out₀ at₀ whole out at (each f (onward n i)) → i < n → Wrote out at (f i) out′ at′ → Writing out₀ at₀ whole out′ at′ (each f (onward n (i + 1)))
@@ -207,11 +229,11 @@ module _ (f : ℕ → List Entry) {out₀ : List ℕ} {at₀ : ℕ} {whole : Lis
   pub rising-end : {n i : ℕ} → Writing out₀ at₀ whole out at (each f (onward n i)) → n ≤ i → Wrote out₀ at₀ whole out at
   rising-end w h = writing-as (each-end f h) w
 
-  pub falling-room : {i : ℕ} → Writing out₀ at₀ whole out at (each f (falling i)) → 0 < i → Room out₀ at₀ whole → Room out at (f (i - 1))
-  falling-room {i} w h r = writing-room (f (i - 1)) (each f (falling (i - 1))) (writing-as (each-falling f h) w) r
+  pub falling-room : {i j : ℕ} → Writing out₀ at₀ whole out at (each f (falling i)) → i ≡ suc j → Room out₀ at₀ (length whole) → Room out at (length (f j))
+  falling-room {i} {j} w e r = writing-room (f j) (each f (falling j)) (writing-as (each-falling f e) w) r
 
-  pub falling-more : {i : ℕ} {out′ : List ℕ} {at′ : ℕ} → Writing out₀ at₀ whole out at (each f (falling i)) → 0 < i → Wrote out at (f (i - 1)) out′ at′ → Writing out₀ at₀ whole out′ at′ (each f (falling (i - 1)))
-  falling-more {i} w h v = writing-more (f (i - 1)) (each f (falling (i - 1))) (writing-as (each-falling f h) w) v
+  pub falling-more : {i j : ℕ} {out′ : List ℕ} {at′ : ℕ} → Writing out₀ at₀ whole out at (each f (falling i)) → i ≡ suc j → Wrote out at (f j) out′ at′ → Writing out₀ at₀ whole out′ at′ (each f (falling j))
+  falling-more {i} {j} w e v = writing-more (f j) (each f (falling j)) (writing-as (each-falling f e) w) v
 
   pub falling-end : {i : ℕ} → Writing out₀ at₀ whole out at (each f (falling i)) → i ≤ 0 → Wrote out₀ at₀ whole out at
   unfolding each falling

@@ -20,9 +20,9 @@ pub record Writing (out₀ : List ℕ) (at₀ : ℕ) (whole : List Entry) (out :
 abbrev pub Wrote : List ℕ → ℕ → List Entry → List ℕ → ℕ → Type 0
 Wrote out₀ at₀ whole out at = Writing out₀ at₀ whole out at []
 
--- there is room for it
-pub record Room (out : List ℕ) (at : ℕ) (l : List Entry) : Type 0 where
-  pub fits : at + 5 * length l ≤ length out
+-- there is room for so many records
+pub record Room (out : List ℕ) (at count : ℕ) : Type 0 where
+  pub fits : at + 5 * count ≤ length out
 
 -- ---- what a function is handed of a sheet that was read and not refused
 

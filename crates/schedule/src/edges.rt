@@ -33,7 +33,7 @@ pub(crate) fn from_edges(
     at: usize,
 ) -> usize
     requires { ⌜ (from + 2 * edges ≤ length (now sheet)) × (edges ≤ 256) × (u < 256) ⌝ }
-    requires { ⌜ Room (now out) at (fromEdges u (ended (now sheet) from edges u)) ⌝ }
+    requires { ⌜ Room (now out) at (length (ended (now sheet) from edges u)) ⌝ }
     ensures { λ r. ⌜ Wrote (now (out .entry)) at (fromEdges u (ended (now (sheet .entry)) from edges u)) (now (out .exit)) r ⌝ }
 {
     let mut next = at;
@@ -59,7 +59,7 @@ pub(crate) fn to_edges(
 ) -> usize
     requires { ⌜ (from + 2 * edges ≤ length (now sheet)) × (edges ≤ 256) × (u < 256) ⌝ }
     requires { ⌜ (length (ended (now sheet) from edges u) ≤ share) × (share < 256) ⌝ }
-    requires { ⌜ Room (now out) at (toEdges u share (ended (now sheet) from edges u)) ⌝ }
+    requires { ⌜ Room (now out) at (length (ended (now sheet) from edges u)) ⌝ }
     ensures { λ r. ⌜ Wrote (now (out .entry)) at (toEdges u share (ended (now (sheet .entry)) from edges u)) (now (out .exit)) r ⌝ }
 {
     let mut next = at;

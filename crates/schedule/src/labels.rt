@@ -11,7 +11,7 @@ ghost use Rattle.schedule.specs.Writing.{Wrote, Room, Known, Begun, havi
 // Kind 3 with share 1 at each position.
 pub(crate) fn to_labels(degree: usize, u: usize, out: &mut [u8], at: usize) -> usize
     requires { ⌜ (degree ≤ 256) × (u < 256) ⌝ }
-    requires { ⌜ Room (now out) at (toLabels u (range 0 degree)) ⌝ }
+    requires { ⌜ Room (now out) at degree ⌝ }
     ensures { λ r. ⌜ Wrote (now (out .entry)) at (toLabels u (range 0 degree)) (now (out .exit)) r ⌝ }
 {
     let mut next = at;
@@ -34,7 +34,7 @@ fn from_label_at(
     at: usize,
 ) -> usize
     requires { ⌜ (from + degree ≤ length (now sheet)) × (degree ≤ 256) × (u < 256) ⌝ }
-    requires { ⌜ Room (now out) at (fromLabel u (having (now sheet) from degree label)) ⌝ }
+    requires { ⌜ Room (now out) at (length (having (now sheet) from degree label)) ⌝ }
     ensures { λ r. ⌜ Wrote (now (out .entry)) at (fromLabel u (having (now (sheet .entry)) from degree label)) (now (out .exit)) r ⌝ }
 {
     let mut next = at;
@@ -61,7 +61,7 @@ fn from_label(
 ) -> usize
     requires { ⌜ Known (now sheet) n ends edges ⌝ }
     requires { ⌜ Begun (now sheet) (now starts) ⌝ }
-    requires { ⌜ Room (now out) at (labelAt (instanceOf (now sheet)) label) ⌝ }
+    requires { ⌜ Room (now out) at (length (labelAt (instanceOf (now sheet)) label)) ⌝ }
     ensures { λ r. ⌜ Wrote (now (out .entry)) at (labelAt (instanceOf (now (sheet .entry))) label) (now (out .exit)) r ⌝ }
 {
     let mut next = at;
@@ -88,14 +88,15 @@ pub(crate) fn from_labels(
 ) -> usize
     requires { ⌜ Known (now sheet) n ends edges ⌝ }
     requires { ⌜ Begun (now sheet) (now starts) ⌝ }
-    requires { ⌜ Room (now out) at (each (labelAt (instanceOf (now sheet))) (falling labels)) ⌝ }
+    requires { ⌜ Room (now out) at (length (each (labelAt (instanceOf (now sheet))) (falling labels))) ⌝ }
     ensures { λ r. ⌜ Wrote (now (out .entry)) at (each (labelAt (instanceOf (now (sheet .entry)))) (falling labels)) (now (out .exit)) r ⌝ }
 {
     let mut next = at;
-    let mut l = labels;
-    while 0 < l {
-        l -= 1;
-        next = from_label(sheet, n, ends, edges, starts, l, out, next);
+    let mut passed = 0;
+    while passed < labels {
+        passed += 1;
+        let label = labels - passed;
+        next = from_label(sheet, n, ends, edges, starts, label, out, next);
     }
     next
 }

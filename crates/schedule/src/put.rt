@@ -14,7 +14,7 @@ pub(crate) fn put(
     index: usize,
     share: usize,
 ) -> usize
-    requires { ⌜ Room (now out) at (entry kind node index share ∷ []) ⌝ }
+    requires { ⌜ Room (now out) at 1 ⌝ }
     requires { ⌜ (node < 256) × (index < 65_536) × (share < 256) ⌝ }
     ensures { λ r. ⌜ Wrote (now (out .entry)) at (entry kind node index share ∷ []) (now (out .exit)) r ⌝ }
 {

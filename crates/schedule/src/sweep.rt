@@ -31,7 +31,7 @@ fn forward_at(
 ) -> usize
     requires { ⌜ Known (now sheet) n ends edges ⌝ }
     requires { ⌜ u < n ⌝ }
-    requires { ⌜ Room (now out) at (forwardAt (instanceOf (now sheet)) u) ⌝ }
+    requires { ⌜ Room (now out) at (length (forwardAt (instanceOf (now sheet)) u)) ⌝ }
     ensures { λ r. ⌜ Wrote (now (out .entry)) at (forwardAt (instanceOf (now (sheet .entry))) u) (now (out .exit)) r ⌝ }
 {
     let share = count_edges(sheet, ends, edges, u) + 1;
@@ -52,7 +52,7 @@ fn backward_at(
 ) -> usize
     requires { ⌜ Known (now sheet) n ends edges ⌝ }
     requires { ⌜ u < n ⌝ }
-    requires { ⌜ Room (now out) at (backwardAt (instanceOf (now sheet)) u) ⌝ }
+    requires { ⌜ Room (now out) at (length (backwardAt (instanceOf (now sheet)) u)) ⌝ }
     ensures { λ r. ⌜ Wrote (now (out .entry)) at (backwardAt (instanceOf (now (sheet .entry))) u) (now (out .exit)) r ⌝ }
 {
     let share = count_edges(sheet, ends + 1, edges, u);
@@ -70,7 +70,7 @@ fn forward_nodes(
     at: usize,
 ) -> usize
     requires { ⌜ Known (now sheet) n ends edges ⌝ }
-    requires { ⌜ Room (now out) at (each (forwardAt (instanceOf (now sheet))) (range 0 n)) ⌝ }
+    requires { ⌜ Room (now out) at (length (each (forwardAt (instanceOf (now sheet))) (range 0 n))) ⌝ }
     ensures { λ r. ⌜ Wrote (now (out .entry)) at (each (forwardAt (instanceOf (now (sheet .entry)))) (range 0 n)) (now (out .exit)) r ⌝ }
 {
     let mut next = at;
@@ -92,7 +92,7 @@ fn backward_nodes(
     at: usize,
 ) -> usize
     requires { ⌜ Known (now sheet) n ends edges ⌝ }
-    requires { ⌜ Room (now out) at (each (backwardAt (instanceOf (now sheet))) (falling n)) ⌝ }
+    requires { ⌜ Room (now out) at (length (each (backwardAt (instanceOf (now sheet))) (falling n))) ⌝ }
     ensures { λ r. ⌜ Wrote (now (out .entry)) at (each (backwardAt (instanceOf (now (sheet .entry)))) (falling n)) (now (out .exit)) r ⌝ }
 {
     let mut next = at;

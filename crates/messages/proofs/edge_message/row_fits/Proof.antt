@@ -23,11 +23,11 @@ abbrev μ-loop : tie.MeasureT-loop
 abbrev f : tie.Start Inv-loop μ-loop → ℕ → ℤ
 f q j = getD (now (q .args .row)) j (pos 0) +ℤ negℤ (getD (now (q .args .amounts)) j (pos 0))
 
-answer : (c : tie.After-less-fits Inv-loop μ-loop) → within filmOut (f (c .before .before .before .before .before) (c .before .before .before .before .loop .k)) ≡ c .less-fits .result
+answer : (c : tie.After-less-fits Inv-loop μ-loop) → within filmOut (f (c .before .before .before .before .before) (c .before .before .before .before .loop .place)) ≡ c .less-fits .result
 answer c =
     let p = c .before .before .before .before in
     let q = p .before in
-    let k = p .loop .k in
+    let k = p .loop .place in
     sym (c .less-fits .ensures
     ∙ ap₂ (λ (x y : ℤ). within filmOut (x +ℤ negℤ y)) (same (getD (now (q .args .row)) k (pos 0)) (c .before .before .less-fits-arg .given)) (same (getD (now (q .args .amounts)) k (pos 0)) (c .before .less-fits-arg2 .given)))
 
@@ -50,11 +50,11 @@ less-fits-requires : tie.Need-less-fits-requires Inv-loop μ-loop
 less-fits-requires c κs =
     let p = c .before .before .before in
     let q = p .before in
-    let k = p .loop .k in
+    let k = p .loop .place in
     (rw (same (getD (now (q .args .row)) k (pos 0)) (c .before .less-fits-arg .given)) (q .pre .1 .0 k), rw (same (getD (now (q .args .amounts)) k (pos 0)) (c .less-fits-arg2 .given)) (q .pre .1 .1 k))
 
-add-k : tie.Need-add-k Inv-loop μ-loop
-add-k c = search needs
+add-place : tie.Need-add-place Inv-loop μ-loop
+add-place c = search needs
 
 loop-less : tie.Need-loop-less Inv-loop μ-loop
 loop-less c = search needs
@@ -66,7 +66,7 @@ returns : tie.Need-returns Inv-loop μ-loop
 returns c =
     let p = c .before .before .before .before .before in
     let l = now (p .before .args .row) in
-    sym (every-is (within filmOut) (length l) (f (p .before)) ∙ below-fails (length l) (λ j. within filmOut (f (p .before) j)) (p .loop .k) (c .before .before .before .before .loop-test .taken) (answer (c .before) ∙ c .if1 .left))
+    sym (every-is (within filmOut) (length l) (f (p .before)) ∙ below-fails (length l) (λ j. within filmOut (f (p .before) j)) (p .loop .place) (c .before .before .before .before .loop-test .taken) (answer (c .before) ∙ c .if1 .left))
 
 returns-2 : tie.Need-returns-2 Inv-loop μ-loop
 returns-2 c =
@@ -86,7 +86,7 @@ row-fits-spec =
     mul-less-fits-2
     element-copy-out-less-fits
     less-fits-requires
-    add-k
+    add-place
     loop-less
     loop-again
     returns

@@ -1,73 +1,121 @@
--- `label_rival` meets its contract: the nodes are gone through, each with its cost of the label.
-use Prim.Native.Nat.{ℕ, _+_, _-_, _≤_}
-use mathlib.Core.Path.{_≡_, ap, ap₂, _∙_}
-use lib.IntN.{ℤ}
+-- `label_rival` meets its contract: the label's row of the index is gone through.
+use Prim.Native.Nat.{ℕ, _+_, _-_, _*_, _≤_, _<_}
+use mathlib.Core.Path.{_≡_, sym, ap, ap₂, _∙_}
+use mathlib.Core.List.{List, [], _∷_, map}
+use lib.ListN.{length, getD}
+use lib.IntN.{ℤ, pos}
 use denote.Ref.{now}
 use mir.Syntax.{w64}
 use mir.Val.{toZ}
 use Rattle.integers.specs.Least.{leastFrom}
+use Rattle.integers.specs.Places.{others}
 use Rattle.integers.proofs.Bits.{same}
-use Rattle.instance.specs.Instance.{first}
-use Rattle.instance.specs.Sheet.{instanceOf}
-use Rattle.messages.specs.LabelMessage.{rivalsAt}
-use Rattle.messages.proofs.Sight.{node-byte, degree-is}
-use Rattle.messages.proofs.RivalLaws.{rivalBelow, rival-none, rival-more, rival-all, row-room, first-none, first-more}
+use Rattle.messages.specs.Index.{many}
+use Rattle.messages.proofs.RivalLaws.{rivalIn, rival-none, rival-next}
 use native.Mathlib.Omega.{arith}
 use borrow.Author.Needs.{needs}
 use Rattle.messages.proofs.label_message.label_rival.Statement.{statement}
 use Rattle.messages.proofs.label_message.label_rival.Tie as tie
 
 abbrev Inv-loop : tie.InvT-loop
-Inv-loop sheet n ends labels own best₀ at₀ w₀ best at w = (w ≤ n) × (at ≡ first (instanceOf sheet) w) × (toZ w64 best ≡ rivalBelow (instanceOf sheet) labels (own .place) w)
+Inv-loop labels holders label own row end best₀ at₀ best at =
+    (65 * label + 1 ≤ at) × (at ≤ 65 * label + 1 + many holders label) × (toZ w64 best ≡ rivalIn (λ j. getD labels j (pos 0)) own holders (65 * label + 1) (at - (65 * label + 1)))
 
 abbrev μ-loop : tie.MeasureT-loop
-μ-loop sheet n ends labels own best₀ at₀ w₀ best at w = n - w
+μ-loop labels holders label own row end best₀ at₀ best at = 65 * label + 1 + many holders label - at
 
-loop-holds : tie.Need-loop-holds Inv-loop μ-loop
-loop-holds c = (omega arith, first-none (c .before .pre .0), rival-none (instanceOf (now (c .before .args .sheet))) (now (c .before .args .labels)) (c .before .args .own .place))
+mul-row : tie.Need-mul-row Inv-loop μ-loop
+mul-row c = search needs
 
-meet-label-requires : tie.Need-meet-label-requires Inv-loop μ-loop
-meet-label-requires c κs = let q = c .before .before .before in (q .pre .0, (q .pre .1 .0, ((c .loop-test .taken, c .before .loop .inv .1), q .pre .1 .1)))
+add-end : tie.Need-add-end Inv-loop μ-loop
+add-end c = search needs
 
-shared-slice-read-wide : tie.Need-shared-slice-read-wide Inv-loop μ-loop
-shared-slice-read-wide c = let q = c .before .before .before .before .before in node-byte (q .pre .0) (c .before .before .loop-test .taken)
+mul-number : tie.Need-mul-number Inv-loop μ-loop
+mul-number c = search needs
 
-wide-requires : tie.Need-wide-requires Inv-loop μ-loop
-wide-requires c κs = search needs
+element-copy-out-number : tie.Need-element-copy-out-number Inv-loop μ-loop
+element-copy-out-number c = search needs
+
+number-requires : tie.Need-number-requires Inv-loop μ-loop
+number-requires c κs = search needs
+
+add-end-2 : tie.Need-add-end-2 Inv-loop μ-loop
+add-end-2 c = search needs
 
 add-at : tie.Need-add-at Inv-loop μ-loop
-add-at c =
-    let h = c .before .before .before .before in
-    let q = h .before .before in
-    omega (arith, c .wide .ensures .1, row-room (q .pre .0) (c .before .before .before .loop-test .taken) (h .loop .inv .1))
+add-at c = search needs
 
-add-w : tie.Need-add-w Inv-loop μ-loop
-add-w c = omega arith
+-- a place of the row
+module _ (p : tie.After-number2 Inv-loop μ-loop) where
+  abbrev start : tie.Start Inv-loop μ-loop
+  start = p .before .before .before .before .before .before
+
+  abbrev from : ℕ
+  from = 65 * start .args .label + 1
+
+  abbrev at : ℕ
+  at = p .before .before .before .loop .at
+
+  abbrev index : List ℕ
+  index = now (start .args .holders)
+
+  -- how far into the row
+  far : at - from < many index (start .args .label)
+  far = omega (arith, p .before .before .loop-test .taken, p .before .before .before .before .number .ensures .0, p .before .before .before .loop .inv .0)
+
+  there : from + (at - from) ≡ at
+  there = omega (arith, p .before .before .before .loop .inv .0)
+
+  place : p .number2 .result ≡ getD index (from + (at - from)) 0
+  place = p .number2 .ensures .0 ∙ ap (λ (j : ℕ). getD index j 0) (sym there)
+
+loop-holds : tie.Need-loop-holds Inv-loop μ-loop
+loop-holds c =
+    let a = c .before .before .args in
+    let f : ℕ → ℤ = (λ j. getD (now (a .labels)) j (pos 0)) in
+    let z : 65 * a .label + 1 - (65 * a .label + 1) ≡ 0 = omega arith in
+    (omega arith, omega arith, rival-none f (a .own) (now (a .holders)) (65 * a .label + 1) ∙ ap (rivalIn f (a .own) (now (a .holders)) (65 * a .label + 1)) (sym z))
+
+mul-number-2 : tie.Need-mul-number-2 Inv-loop μ-loop
+mul-number-2 c = search needs
+
+element-copy-out-number-2 : tie.Need-element-copy-out-number-2 Inv-loop μ-loop
+element-copy-out-number-2 c = search needs
+
+number-requires-2 : tie.Need-number-requires-2 Inv-loop μ-loop
+number-requires-2 c κs = search needs
+
+meet-requires : tie.Need-meet-requires Inv-loop μ-loop
+meet-requires c κs = omega (arith, place c, start c .pre .1 (at c - from c) (far c))
+
+add-at-2 : tie.Need-add-at-2 Inv-loop μ-loop
+add-at-2 c = search needs
 
 loop-less : tie.Need-loop-less Inv-loop μ-loop
-loop-less c = omega arith
+loop-less c = search needs
 
 loop-again : tie.Need-loop-again Inv-loop μ-loop
 loop-again c =
-    let h = c .before .before .before .before in
-    let q = h .before .before in
-    let a = q .args in
-    let m = c .before .before .meet-label in (
-      omega arith,
-      ap₂ _+_ (h .loop .inv .1) (c .wide .ensures .0 ∙ degree-is (q .pre .0) (h .loop .w)) ∙ first-more (instanceOf (now (a .sheet))) (h .loop .w),
-      same (m .result) (m .ok) ∙ m .ensures
-          ∙ ap (λ (z : ℤ). leastFrom z (rivalsAt (instanceOf (now (a .sheet))) (now (a .labels)) (a .own .place) (h .loop .w))) (h .loop .inv .2)
-          ∙ rival-more (instanceOf (now (a .sheet))) (now (a .labels)) (a .own .place) (h .loop .w),
+    let p = c .before in
+    let a = start p .args in
+    let f : ℕ → ℤ = (λ j. getD (now (a .labels)) j (pos 0)) in
+    let i = p .before .before .before .loop .inv in
+    let n = at p - from p in
+    let z : n + 1 ≡ at p + 1 - from p = omega (arith, i .0) in (
+      omega (arith, i .0),
+      omega (arith, far p, i .0),
+      same (c .meet .result) (c .meet .ok) ∙ c .meet .ensures
+          ∙ ap₂ (λ (b : ℤ) (x : ℕ). leastFrom b (map f (others (a .own) (x ∷ [])))) (i .2) (place p)
+          ∙ rival-next f (a .own) (index p) (from p) n ∙ ap (rivalIn f (a .own) (index p) (from p)) z,
     )
 
 returns : tie.Need-returns Inv-loop μ-loop
 returns c =
     let h = c .before in
-    let q = h .before .before in
-    let a = q .args in
-    let e : h .loop .w ≡ a .n = omega arith in
-    h .loop .inv .2 ∙ ap (rivalBelow (instanceOf (now (a .sheet))) (now (a .labels)) (a .own .place)) e
-    ∙ rival-all (instanceOf (now (a .sheet))) (now (a .labels)) (a .own .place) (q .pre .0 .nodes)
+    let a = h .before .before .before .args in
+    let f : ℕ → ℤ = (λ j. getD (now (a .labels)) j (pos 0)) in
+    let e : h .loop .at - (65 * a .label + 1) ≡ many (now (a .holders)) (a .label) = omega (arith, h .loop .inv .0, h .loop .inv .1, c .loop-test .left, h .before .number .ensures .0) in
+    h .loop .inv .2 ∙ ap (rivalIn f (a .own) (now (a .holders)) (65 * a .label + 1)) e
 
 pub label-rival-spec : {M : Type 1} → statement M
 label-rival-spec =
@@ -75,12 +123,19 @@ label-rival-spec =
     (tie.spec
     Inv-loop
     μ-loop
-    loop-holds
-    meet-label-requires
-    shared-slice-read-wide
-    wide-requires
+    mul-row
+    add-end
+    mul-number
+    element-copy-out-number
+    number-requires
+    add-end-2
     add-at
-    add-w
+    loop-holds
+    mul-number-2
+    element-copy-out-number-2
+    number-requires-2
+    meet-requires
+    add-at-2
     loop-less
     loop-again
     returns)

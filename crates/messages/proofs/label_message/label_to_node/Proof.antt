@@ -26,20 +26,20 @@ label-amount-requires : tie.Need-label-amount-requires
 label-amount-requires c κs = search needs
 
 add-shift-label : tie.Need-add-shift-label
-add-shift-label c = let q = c .before .before .before .before .before in omega (arith, place-in (q .pre .0) (now (q .args .nodes)) (q .pre .1 .nodeLength))
+add-shift-label c = let q = c .before .before .before .before .before in omega (arith, place-in (q .pre .0) (now (q .args .nodes)) (q .pre .1 .1 .nodeLength))
 
 minus-requires : tie.Need-minus-requires
 minus-requires c κs =
     let q = c .before .before .before .before .before in
     let a = q .args in
     let p = c .before .before .label-amount in
-    rw (same (p .result) (p .ok), p .ensures) (zero-fits (labelAmount (instanceOf (now (a .sheet))) (now (a .labels)) (a .at + a .k) (a .share)) (label-fits (instanceOf (now (a .sheet))) (now (a .labels)) (q .pre .1 .labelRange) (a .at + a .k) (a .share)))
+    rw (same (p .result) (p .ok), p .ensures) (zero-fits (labelAmount (instanceOf (now (a .sheet))) (now (a .labels)) (a .at + a .k) (a .share)) (label-fits (instanceOf (now (a .sheet))) (now (a .labels)) (q .pre .1 .1 .labelRange) (a .at + a .k) (a .share)))
 
 shift-label-requires : tie.Need-shift-label-requires
 shift-label-requires c κs =
     let q = c .before .before .before .before .before .before in
     let a = q .args in
-    let f = q .pre .1 in (
+    let f = q .pre .1 .1 in (
       (place-in (q .pre .0) (now (a .nodes)) (f .nodeLength), place-in (q .pre .0) (now (a .labels)) (f .labelLength)),
       (f .nodeRange, (f .labelRange, rw (same (c .minus .result) (c .minus .ok), back c) (neg-fits (labelAmount (instanceOf (now (a .sheet))) (now (a .labels)) (a .at + a .k) (a .share)) (label-fits (instanceOf (now (a .sheet))) (now (a .labels)) (f .labelRange) (a .at + a .k) (a .share))))),
     )

@@ -26,9 +26,10 @@ shift-label-requires c κs =
     let q = c .before .before .before .before .before in
     let a = q .args in
     let f = q .pre .1 in
-    let p = c .before .before .node-amount in (
+    let p = c .before .before .node-amount in
+    let small : natAbs (toZ w64 (ofZ w64 (p .result))) ≤ 2 ^ 41 = rw (same (p .result) (p .ok), p .ensures) (node-fits (instanceOf (now (a .sheet))) (now (a .nodes)) (f .nodeRange) (a .u) (a .at + a .k) (a .share)) in (
       (place-in (q .pre .0) (now (a .nodes)) (f .nodeLength), place-in (q .pre .0) (now (a .labels)) (f .labelLength)),
-      (f .nodeRange, (f .labelRange, rw (same (p .result) (p .ok), p .ensures) (node-fits (instanceOf (now (a .sheet))) (now (a .nodes)) (f .nodeRange) (a .u) (a .at + a .k) (a .share)))),
+      (f .nodeRange, (f .labelRange, omega (arith, small))),
     )
 
 same-length : tie.Need-same-length

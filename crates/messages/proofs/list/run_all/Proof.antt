@@ -19,11 +19,11 @@ use Rattle.messages.proofs.list.run_all.Statement.{statement}
 use Rattle.messages.proofs.list.run_all.Tie as tie
 
 abbrev Inv-loop : tie.InvT-loop
-Inv-loop sheet n ends starts tables prices cells count records nodes₀ labels₀ edges₀ incumbent₀ at₀ done₀ stuck₀ nodes labels edges incumbent at done stuck =
+Inv-loop sheet n ends starts tables holders prices cells count records nodes₀ labels₀ edges₀ incumbent₀ at₀ done₀ stuck₀ nodes labels edges incumbent at done stuck =
     Going sheet records (lent nodes₀ labels₀ edges₀ incumbent₀) (lent nodes labels edges incumbent) at done stuck
 
 abbrev μ-loop : tie.MeasureT-loop
-μ-loop sheet n ends starts tables prices cells count records nodes₀ labels₀ edges₀ incumbent₀ at₀ done₀ stuck₀ nodes labels edges incumbent at done stuck =
+μ-loop sheet n ends starts tables holders prices cells count records nodes₀ labels₀ edges₀ incumbent₀ at₀ done₀ stuck₀ nodes labels edges incumbent at done stuck =
     length records - at
 
 -- what is lent first
@@ -31,7 +31,10 @@ abbrev lends : tie.Start Inv-loop μ-loop → Buffers
 lends q = lent (now (q .args .nodes)) (now (q .args .labels)) (now (q .args .edges)) (now (q .args .incumbent))
 
 sizes : (q : tie.Start Inv-loop μ-loop) → Sized (instanceOf (now (q .args .sheet))) (lends q)
-sizes q = q .pre .1 .1 .0 .sound .sized
+sizes q = q .pre .1 .1 .1 .0 .sound .sized
+
+brief : (q : tie.Start Inv-loop μ-loop) → length (now (q .args .records)) < 2 ^ 64
+brief q = omega (arith, q .fits)
 
 -- a record was taken
 module _ (p : tie.After-next-record Inv-loop μ-loop) where
@@ -51,7 +54,7 @@ module _ (p : tie.After-next-record Inv-loop μ-loop) where
   b = lent (p .before .before .before .before .before .before .before .loop .nodes) (p .before .before .before .before .before .before .before .loop .labels) (p .before .before .before .before .before .before .before .loop .edges) (p .before .before .before .before .before .before .before .loop .incumbent)
 
   abbrev left : Buffers
-  left = lent (p .next-record .last .1 .1 .1 .1 .1 .1 .1 .1 .1 .0) (p .next-record .last .1 .1 .1 .1 .1 .1 .1 .1 .1 .1 .0) (p .next-record .last .1 .1 .1 .1 .1 .1 .1 .1 .1 .1 .1 .0) (p .next-record .last .1 .1 .1 .1 .1 .1 .1 .1 .1 .1 .1 .1 .0)
+  left = lent (p .next-record .last .1 .1 .1 .1 .1 .1 .1 .1 .1 .1 .0) (p .next-record .last .1 .1 .1 .1 .1 .1 .1 .1 .1 .1 .1 .0) (p .next-record .last .1 .1 .1 .1 .1 .1 .1 .1 .1 .1 .1 .1 .0) (p .next-record .last .1 .1 .1 .1 .1 .1 .1 .1 .1 .1 .1 .1 .1 .0)
 
   going : Going (now (start .args .sheet)) l (lends start) b at (p .before .before .before .before .before .before .before .loop .done) (p .before .before .before .before .before .before .before .loop .stuck)
   going = p .before .before .before .before .before .before .before .loop .inv
@@ -69,13 +72,13 @@ module _ (p : tie.After-next-record Inv-loop μ-loop) where
   few = going-few going more told
 
   short : length l < 2 ^ 64
-  short = omega (arith, start .fits)
+  short = brief start
 
   room : at + 5 ≤ length l
   room = going-room going more
 
 loop-holds : tie.Need-loop-holds Inv-loop μ-loop
-loop-holds c = let q = c .before .before .before in going-start (now (q .args .sheet)) (now (q .args .records)) (lends q) (q .pre .1 .1 .0) (q .pre .1 .1 .1)
+loop-holds c = let q = c .before .before .before in going-start (now (q .args .sheet)) (now (q .args .records)) (lends q) (q .pre .1 .1 .1 .0) (q .pre .1 .1 .1 .1)
 
 sub-next-record : tie.Need-sub-next-record Inv-loop μ-loop
 sub-next-record c = omega arith
@@ -90,7 +93,7 @@ next-record-requires : tie.Need-next-record-requires Inv-loop μ-loop
 next-record-requires c κs =
     let h = c .before .before .before .before .before .before in
     let q = h .before .before .before .before in
-    (q .pre .0, (q .pre .1 .0, (h .loop .inv .good, rw (tail-part (h .loop .at) (now (q .args .records))) (going-bytes (h .loop .inv) (c .before .before .before .before .before .loop-test .taken)))))
+    (q .pre .0, (q .pre .1 .0, (q .pre .1 .1 .0, (h .loop .inv .good, rw (tail-part (h .loop .at) (now (q .args .records))) (going-bytes (h .loop .inv) (c .before .before .before .before .before .loop-test .taken))))))
 
 same-length : tie.Need-same-length Inv-loop μ-loop
 same-length c = let p = c .before .before .before .before .before .before .before in sized p .nodes ∙ sym (sizes (start p) .nodes)

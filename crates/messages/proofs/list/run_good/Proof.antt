@@ -1,12 +1,17 @@
 -- `run_good` meets its contract: what reading answered is what a run asks.
-use Prim.Native.Nat.{ℕ}
+use Prim.Native.Nat.{ℕ, _+_, _-_, _*_}
 use mathlib.Core.List.{List}
-use mathlib.Core.Path.{_≡_, _∙_}
+use mathlib.Core.Path.{_≡_, sym, ap, _∙_, subst}
+use lib.ListN.{length, getD, take, drop}
 use denote.Ref.{now}
 use Rattle.instance.specs.declared.reading.Layout.{Layout}
 use Rattle.instance.proofs.LaidOut.{LaidOut, refusal-is, laid-out}
 use Rattle.rules.specs.Costs.{Buffers}
-use Rattle.messages.specs.World.{lent}
+use Rattle.instance.specs.Instance.{nodeCells}
+use Rattle.instance.specs.Sheet.{instanceOf}
+use Rattle.messages.specs.World.{lent, Known}
+use Rattle.messages.specs.Index.{Indexed, Indexable}
+use Rattle.messages.proofs.RivalLaws.{labelBytes, labels-indexable, labels-indexed}
 use Rattle.messages.proofs.LentLaws.{LentWell, lent-well, seen-of, priced-of}
 use Rattle.messages.proofs.TurnLaws.{good-of}
 use native.Mathlib.Omega.{arith}
@@ -48,10 +53,32 @@ mul-cells c = omega (arith, laid (c .before .before .before .before .before))
 add-cells : tie.Need-add-cells
 add-cells c = omega (arith, laid (c .before .before .before .before .before))
 
+sub-index-by : tie.Need-sub-index-by
+sub-index-by c = omega (arith, laid (c .before .before .before .before .before .before .before))
+
+part-index-by-start : tie.Need-part-index-by-start
+part-index-by-start c = omega (arith, laid (c .before .before .before .before .before .before .before))
+
+part-index-by-end : tie.Need-part-index-by-end
+part-index-by-end c = omega (arith, laid (c .before .before .before .before .before .before .before))
+
+-- the bytes of the labels, which stand between the degrees and the node prices
+module _ (q : tie.Start) where
+  known : Known (sheet q) (layout q .nodes) (layout q .nodes + 5 * layout q .positions)
+  known = seen-of (sheet q) (q .pre .0) (unread q) .known
+
+  bytes : take (layout q .nodes + layout q .positions - layout q .nodes) (drop (layout q .nodes) (sheet q)) ≡ labelBytes (known)
+  bytes = let e : layout q .nodes + layout q .positions - layout q .nodes ≡ nodeCells (instanceOf (sheet q)) = omega (arith, laid q) in ap (λ (m : ℕ). take m (drop (layout q .nodes) (sheet q))) e
+
+index-by-requires : tie.Need-index-by-requires
+index-by-requires c κs = let q = c .before .before .before .before .before .before .before .before in subst (λ (l : List ℕ). Indexable l) (sym (bytes q)) (labels-indexable (known q))
+
 run-all-requires : tie.Need-run-all-requires
 run-all-requires c κs =
-    let q = c .before .before .before .before .before .before .before .before .before .before .before .before .before in
-    (seen-of (sheet q) (q .pre .0) (unread q), (priced-of (sheet q) (q .pre .0) (unread q), (good-of (sheet q) (lends q) (well q), q .pre .1 .1)))
+    let i = c .before .before .before .before .before .before .before in
+    let q = i .before .before .before .before .before .before .before .before .before in
+    let holders = labels-indexed (known q) (subst (λ (l : List ℕ). Indexed (λ j. getD l j 0) (length l) (i .index-by .result)) (bytes q) (i .index-by .ensures)) in
+    (seen-of (sheet q) (q .pre .0) (unread q), (holders, (priced-of (sheet q) (q .pre .0) (unread q), (good-of (sheet q) (lends q) (well q), q .pre .1 .1))))
 
 same-length : tie.Need-same-length
 same-length c = search needs
@@ -77,6 +104,10 @@ run-good-spec =
     add-prices
     mul-cells
     add-cells
+    sub-index-by
+    part-index-by-start
+    part-index-by-end
+    index-by-requires
     run-all-requires
     same-length
     same-length-2

@@ -45,10 +45,10 @@ element-copy-out-at : tie.Need-element-copy-out-at
 element-copy-out-at c = omega (arith, node c, nodes-few (start c .pre .0 .known))
 
 label-to-node-requires : tie.Need-label-to-node-requires
-label-to-node-requires c κs = let p = c .before .before .before .before in (asked p, start p .pre .1)
+label-to-node-requires c κs = let p = c .before .before .before .before in (asked p, (start p .pre .1 .0, start p .pre .1 .1))
 
 node-to-label-requires : tie.Need-node-to-label-requires
-node-to-label-requires c κs = let p = c .before .before .before .before in (asked p, start p .pre .1)
+node-to-label-requires c κs = let p = c .before .before .before .before in (asked p, start p .pre .1 .1)
 
 same-length : tie.Need-same-length
 same-length c = search needs

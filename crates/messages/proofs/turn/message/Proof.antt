@@ -15,10 +15,10 @@ use Rattle.messages.proofs.turn.message.Statement.{statement}
 use Rattle.messages.proofs.turn.message.Tie as tie
 
 edge-record-requires : tie.Need-edge-record-requires
-edge-record-requires c κs = let q = c .before .before .before .before in (q .pre .0, (q .pre .1 .0, edge-fit (q .pre .1 .1 .0)))
+edge-record-requires c κs = let q = c .before .before .before .before in (q .pre .0, (q .pre .1 .1 .0, edge-fit (q .pre .1 .1 .1 .0)))
 
 label-record-requires : tie.Need-label-record-requires
-label-record-requires c κs = let q = c .before .before .before .before in (q .pre .0, label-fit (q .pre .1 .1 .0))
+label-record-requires c κs = let q = c .before .before .before .before in (q .pre .0, (q .pre .1 .0, label-fit (q .pre .1 .1 .1 .0)))
 
 same-length : tie.Need-same-length
 same-length c = search needs
@@ -30,7 +30,7 @@ returns : tie.Need-returns
 returns c x g =
     let q = c .before .before .before .before .before .before .before in
     let a = q .args in
-    sym (edge-turn g (a .kind) (a .u) (a .index) (a .share) (q .pre .1 .1 .1 .0) (c .before .before .before .before .before .if1 .taken)
+    sym (edge-turn g (a .kind) (a .u) (a .index) (a .share) (q .pre .1 .1 .1 .1 .0) (c .before .before .before .before .before .if1 .taken)
     ∙ ap (edgeSettled (lent (now (a .nodes)) (now (a .labels)) (now (a .edges)) x)) (sym (c .before .before .edge-record .ensures)))
 
 same-length-3 : tie.Need-same-length-3
@@ -43,7 +43,7 @@ returns-2 : tie.Need-returns-2
 returns-2 c x g =
     let q = c .before .before .before .before .before .before .before in
     let a = q .args in
-    sym (label-turn g (a .kind) (a .u) (a .index) (a .share) (c .before .before .before .before .before .if1 .left) (q .pre .1 .1 .1 .1)
+    sym (label-turn g (a .kind) (a .u) (a .index) (a .share) (c .before .before .before .before .before .if1 .left) (q .pre .1 .1 .1 .1 .1)
     ∙ ap (λ (m : Moved). settle (lent (m .nodes) (m .labels) (now (a .edges)) x) 0 (m .refusal)) (sym (c .before .before .label-record .ensures)))
 
 pub message-spec : {M : Type 1} → statement M

@@ -44,7 +44,7 @@ shared-slice-read-one-record-2 : tie.Need-shared-slice-read-one-record-2
 shared-slice-read-one-record-2 c = search needs
 
 one-record-requires : tie.Need-one-record-requires
-one-record-requires c κs = let q = c .before .before .before .before .before .before .before .before .before .before .before .before .before .before .before in (q .pre .0, (q .pre .1 .0, q .pre .1 .1 .0))
+one-record-requires c κs = let q = c .before .before .before .before .before .before .before .before .before .before .before .before .before .before .before in (q .pre .0, (q .pre .1 .0, (q .pre .1 .1 .0, q .pre .1 .1 .1 .0)))
 
 same-length : tie.Need-same-length
 same-length c = search needs

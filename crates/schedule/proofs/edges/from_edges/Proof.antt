@@ -13,7 +13,7 @@ use Rattle.integers.specs.Places.{select}
 use Rattle.instance.specs.Bytes.{byte}
 use Rattle.schedule.specs.Sweep.{Entry, entry, fromEdges}
 use Rattle.schedule.specs.Writing.{Writing, ended}
-use Rattle.schedule.proofs.WritingLaws.{onward, writing-size, turns-start, turns-room, turns-hit, turns-miss, turns-end}
+use Rattle.schedule.proofs.WritingLaws.{onward, length-map, room-as, writing-size, turns-start, turns-room, turns-hit, turns-miss, turns-end}
 use Rattle.schedule.proofs.edges.from_edges.Statement.{statement}
 use Rattle.schedule.proofs.edges.from_edges.Tie as tie
 
@@ -48,12 +48,13 @@ wide-requires : tie.Need-wide-requires Inv-loop μ-loop
 wide-requires c κs = search needs
 
 put-requires : tie.Need-put-requires Inv-loop μ-loop
+unfolding fromEdges
 put-requires c κs =
     let i = c .before .before .before .before in
     let p = i .before in
     let q = p .before .before .before in
     let a = q .args in (
-      turns-room (t (now (a .sheet)) (a .from) (a .u)) (f (a .u)) (p .loop .inv .1) (i .loop-test .taken) (eq-eqb _ _ (sym (c .before .before .wide .ensures .0) ∙ c .before .if1 .taken)) (q .pre .1),
+      turns-room (t (now (a .sheet)) (a .from) (a .u)) (f (a .u)) (p .loop .inv .1) (i .loop-test .taken) (eq-eqb _ _ (sym (c .before .before .wide .ensures .0) ∙ c .before .if1 .taken)) (room-as (sym (length-map (f (a .u)) (ended (now (a .sheet)) (a .from) (a .edges) (a .u)))) (q .pre .1)),
       (omega arith, omega arith, omega arith),
     )
 

@@ -14,7 +14,7 @@ use Rattle.integers.specs.Places.{select}
 use Rattle.instance.specs.Bytes.{byte}
 use Rattle.schedule.specs.Sweep.{toEdges}
 use Rattle.schedule.specs.Writing.{Writing, ended}
-use Rattle.schedule.proofs.WritingLaws.{onward, onward-start, writing-size, shares-start, shares-room, shares-hit, shares-miss, shares-end, counted-hit, counted-miss}
+use Rattle.schedule.proofs.WritingLaws.{onward, onward-start, length-toEdges, room-as, writing-size, shares-start, shares-room, shares-hit, shares-miss, shares-end, counted-hit, counted-miss}
 use Rattle.schedule.proofs.edges.to_edges.Statement.{statement}
 use Rattle.schedule.proofs.edges.to_edges.Tie as tie
 
@@ -75,7 +75,7 @@ put-requires : tie.Need-put-requires Inv-loop μ-loop
 put-requires c κs =
     let p = c .before in
     let l = i p .before .loop in
-    (shares-room (g p) (q p .args .u) (l .left) (l .inv .3) (i p .loop-test .taken) (met p) (q p .pre .1 .1), (omega arith, omega arith, omega (arith, l .inv .1, q p .pre .1 .0)))
+    (shares-room (g p) (q p .args .u) (l .left) (l .inv .3) (i p .loop-test .taken) (met p) (room-as (sym (length-toEdges (q p .args .u) (q p .args .share) (ended (now (q p .args .sheet)) (q p .args .from) (q p .args .edges) (q p .args .u)))) (q p .pre .1 .1)), (omega arith, omega arith, omega (arith, l .inv .1, q p .pre .1 .0)))
 
 sub-left : tie.Need-sub-left Inv-loop μ-loop
 sub-left c = omega (arith, some (c .before .before .before .before))

@@ -1,5 +1,5 @@
 -- `from_label` meets its contract: a list for each node, rising.
-use mathlib.Core.Path.{_≡_, ap}
+use mathlib.Core.Path.{_≡_, sym, ap, _∙_}
 use mathlib.Core.List.{List}
 use Prim.Native.Nat.{ℕ, _+_, _-_, _≤_}
 use native.Mathlib.Omega.{arith}
@@ -8,9 +8,9 @@ use denote.Ref.{now}
 use lib.ListN.{length, getD}
 use Rattle.instance.specs.Bytes.{byte}
 use Rattle.instance.specs.Sheet.{instanceOf}
-use Rattle.schedule.specs.Sweep.{Entry, each, fromLabel, labelled, labelAt}
+use Rattle.schedule.specs.Sweep.{Entry, entry, each, fromLabel, labelled, labelAt}
 use Rattle.schedule.specs.Writing.{Writing, having}
-use Rattle.schedule.proofs.WritingLaws.{onward, writing-for, writing-size, rising-start, rising-room, rising-more, rising-end}
+use Rattle.schedule.proofs.WritingLaws.{length-map, room-as, onward, writing-for, writing-size, rising-start, rising-room, rising-more, rising-end}
 use Rattle.schedule.proofs.Sight.{node-byte, nodes-few, degree-few, label-rows, label-bytes, labelled-is}
 use Rattle.schedule.proofs.labels.from_label.Statement.{statement}
 use Rattle.schedule.proofs.labels.from_label.Tie as tie
@@ -51,6 +51,10 @@ module _ (i : tie.In-loop Inv-loop μ-loop) where
   row : fromLabel u (having (now (q .args .sheet)) (q .args .n + getD (now (q .args .starts)) u 0) (byte (now (q .args .sheet)) u) (q .args .label)) ≡ f (now (q .args .sheet)) (q .args .label) u
   row = ap (fromLabel u) (labelled-is (q .pre .0) (q .pre .1 .0) (i .loop-test .taken) (q .args .label))
 
+  few : length (f (now (q .args .sheet)) (q .args .label) u) ≡ length (having (now (q .args .sheet)) (q .args .n + getD (now (q .args .starts)) u 0) (byte (now (q .args .sheet)) u) (q .args .label))
+  unfolding fromLabel
+  few = ap length (sym row) ∙ length-map (λ k. entry 4 u k 1) (having (now (q .args .sheet)) (q .args .n + getD (now (q .args .starts)) u 0) (byte (now (q .args .sheet)) u) (q .args .label))
+
 add-from : tie.Need-add-from Inv-loop μ-loop
 add-from c = omega (arith, inside (c .before), q (c .before) .fits)
 
@@ -66,7 +70,7 @@ from-label-at-requires c κs =
     let k = q i .pre .0 in
     let d = c .before .wide .ensures .0 in (
       (omega (arith, d, inside i), omega (arith, d, degree-few k (i .loop-test .taken)), omega (arith, nodes-few k, i .loop-test .taken)),
-      rw (d, row i) (rising-room (f (now (q i .args .sheet)) (q i .args .label)) (i .before .loop .inv .1) (i .loop-test .taken) (q i .pre .1 .1)),
+      rw d (room-as (few i) (rising-room (f (now (q i .args .sheet)) (q i .args .label)) (i .before .loop .inv .1) (i .loop-test .taken) (q i .pre .1 .1))),
     )
 
 add-u : tie.Need-add-u Inv-loop μ-loop

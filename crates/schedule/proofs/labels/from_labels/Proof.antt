@@ -1,31 +1,40 @@
 -- `from_labels` meets its contract: a list for each label, falling.
+use mathlib.Core.Path.{_≡_}
+use Prim.Native.Nat.{suc, _+_, _-_, _≤_}
 use native.Mathlib.Omega.{arith}
 use denote.Ref.{now}
 use Rattle.instance.specs.Sheet.{instanceOf}
 use Rattle.schedule.specs.Sweep.{each, falling, labelAt}
 use Rattle.schedule.specs.Writing.{Writing}
-use Rattle.schedule.proofs.WritingLaws.{writing-start, writing-size, falling-room, falling-more, falling-end}
+use Rattle.schedule.proofs.WritingLaws.{writing-start, writing-as, writing-size, falling-room, falling-more, falling-end, falling-none}
 use Rattle.schedule.proofs.labels.from_labels.Statement.{statement}
 use Rattle.schedule.proofs.labels.from_labels.Tie as tie
 
 abbrev Inv-loop : tie.InvT-loop
-Inv-loop sheet n ends edges starts labels out₀ at next₀ l₀ out next l =
-    Writing out₀ at (each (labelAt (instanceOf sheet)) (falling labels)) out next (each (labelAt (instanceOf sheet)) (falling l))
+Inv-loop sheet n ends edges starts labels out₀ at next₀ passed₀ out next passed =
+    (passed ≤ labels) × Writing out₀ at (each (labelAt (instanceOf sheet)) (falling labels)) out next (each (labelAt (instanceOf sheet)) (falling (labels - passed)))
 
 abbrev μ-loop : tie.MeasureT-loop
-μ-loop sheet n ends edges starts labels out₀ at next₀ l₀ out next l = l
+μ-loop sheet n ends edges starts labels out₀ at next₀ passed₀ out next passed = labels - passed
 
 loop-holds : tie.Need-loop-holds Inv-loop μ-loop
-loop-holds c = let a = c .before .before .args in writing-start (now (a .out)) (a .at) (each (labelAt (instanceOf (now (a .sheet)))) (falling (a .labels)))
+loop-holds c =
+    let a = c .before .before .args in
+    let f = labelAt (instanceOf (now (a .sheet))) in
+    (omega arith, writing-as (falling-none f (a .labels)) (writing-start (now (a .out)) (a .at) (each f (falling (a .labels)))))
 
-sub-l : tie.Need-sub-l Inv-loop μ-loop
-sub-l c = omega arith
+add-passed : tie.Need-add-passed Inv-loop μ-loop
+add-passed c = omega arith
+
+sub-label : tie.Need-sub-label Inv-loop μ-loop
+sub-label c = omega arith
 
 from-label-requires : tie.Need-from-label-requires Inv-loop μ-loop
 from-label-requires c κs =
     let p = c .before .before in
     let q = p .before .before .before in
-    (q .pre .0, (q .pre .1 .0, falling-room (labelAt (instanceOf (now (q .args .sheet)))) (p .loop .inv) (c .before .loop-test .taken) (q .pre .1 .1)))
+    let e : q .args .labels - p .loop .passed ≡ suc (q .args .labels - (p .loop .passed + 1)) = omega (arith, c .before .loop-test .taken) in
+    (q .pre .0, (q .pre .1 .0, falling-room (labelAt (instanceOf (now (q .args .sheet)))) (p .loop .inv .1) e (q .pre .1 .1)))
 
 loop-less : tie.Need-loop-less Inv-loop μ-loop
 loop-less c = omega arith
@@ -34,13 +43,15 @@ loop-again : tie.Need-loop-again Inv-loop μ-loop
 loop-again c =
     let i = c .before .before .before .before in
     let p = i .before in
-    falling-more (labelAt (instanceOf (now (p .before .before .before .args .sheet)))) (p .loop .inv) (i .loop-test .taken) (c .before .before .from-label .ensures)
+    let a = p .before .before .before .args in
+    let e : a .labels - p .loop .passed ≡ suc (a .labels - (p .loop .passed + 1)) = omega (arith, i .loop-test .taken) in
+    (omega arith, falling-more (labelAt (instanceOf (now (a .sheet)))) (p .loop .inv .1) e (c .before .before .from-label .ensures))
 
 same-length : tie.Need-same-length Inv-loop μ-loop
-same-length c = writing-size _ (c .before .loop .inv)
+same-length c = writing-size _ (c .before .loop .inv .1)
 
 returns : tie.Need-returns Inv-loop μ-loop
-returns c = falling-end (labelAt (instanceOf (now (c .before .before .before .before .args .sheet)))) (c .before .loop .inv) (omega (arith, c .loop-test .left))
+returns c = falling-end (labelAt (instanceOf (now (c .before .before .before .before .args .sheet)))) (c .before .loop .inv .1) (omega (arith, c .loop-test .left))
 
 pub from-labels-spec : {M : Type 1} → statement M
 from-labels-spec =
@@ -49,7 +60,8 @@ from-labels-spec =
     Inv-loop
     μ-loop
     loop-holds
-    sub-l
+    add-passed
+    sub-label
     from-label-requires
     loop-less
     loop-again

@@ -1,12 +1,13 @@
 -- `to_labels` meets its contract: a record for each position.
-use mathlib.Core.Path.{ap}
+use mathlib.Core.Path.{sym, ap, _∙_}
 use mathlib.Core.List.{[], _∷_, map}
 use Prim.Native.Nat.{ℕ, _+_, _-_, _≤_}
 use native.Mathlib.Omega.{arith}
 use denote.Ref.{now}
+use lib.ListN.{length}
 use Rattle.schedule.specs.Sweep.{Entry, entry, toLabels}
 use Rattle.schedule.specs.Writing.{Writing}
-use Rattle.schedule.proofs.WritingLaws.{onward, onward-start, onward-more, onward-end, writing-start, writing-as, writing-more, writing-size, writing-room}
+use Rattle.schedule.proofs.WritingLaws.{length-map, length-range, room-as, onward, onward-start, onward-more, onward-end, writing-start, writing-as, writing-more, writing-size, writing-room}
 use Rattle.schedule.proofs.labels.to_labels.Statement.{statement}
 use Rattle.schedule.proofs.labels.to_labels.Tie as tie
 
@@ -23,13 +24,12 @@ loop-holds : tie.Need-loop-holds Inv-loop μ-loop
 loop-holds c = let a = c .before .args in (omega arith, writing-start (now (a .out)) (a .at) (map (f (a .u)) (onward (a .degree) 0)))
 
 put-requires : tie.Need-put-requires Inv-loop μ-loop
-unfolding toLabels
 put-requires c κs =
     let p = c .before .before in
     let q = p .before .before in
     let u = q .args .u in
     let k = p .loop .k in (
-      writing-room (f u k ∷ []) (map (f u) (onward (q .args .degree) (k + 1))) (writing-as (ap (map (f u)) (onward-more (c .before .loop-test .taken))) (p .loop .inv .1)) (rw (← onward-start (q .args .degree)) (q .pre .1)),
+      writing-room (f u k ∷ []) (map (f u) (onward (q .args .degree) (k + 1))) (writing-as (ap (map (f u)) (onward-more (c .before .loop-test .taken))) (p .loop .inv .1)) (room-as (sym (length-map (f u) (onward (q .args .degree) 0) ∙ ap length (sym (onward-start (q .args .degree))) ∙ length-range 0 (q .args .degree))) (q .pre .1)),
       (omega arith, omega arith, omega arith),
     )
 

@@ -3,6 +3,7 @@ use mathlib.Core.List.{List, _++_}
 use native.Mathlib.Omega.{arith}
 use borrow.Author.Needs.{needs}
 use denote.Ref.{now}
+use lib.ListN.{length}
 use Rattle.instance.specs.Instance.{Instance}
 use Rattle.instance.specs.Sheet.{instanceOf}
 use Rattle.schedule.specs.Sweep.{Entry, each, falling, rounding, labelAt, backwardAt, backward}
@@ -22,7 +23,7 @@ module _ (q : tie.Start) where
   abbrev nodes : List Entry
   nodes = each (backwardAt I) (falling (I .nodeCount))
 
-  room : Room (now (q .args .out)) 0 (labels ++ (nodes ++ rounding))
+  room : Room (now (q .args .out)) 0 (length (labels ++ (nodes ++ rounding)))
   unfolding backward
   room = room-whole (labels ++ (nodes ++ rounding)) (q .pre .1 .1 .1)
 

@@ -8,8 +8,8 @@ use denote.Ref.{now}
 use lib.ListN.{length}
 use Rattle.instance.specs.Instance.{Instance}
 use Rattle.instance.specs.Sheet.{instanceOf}
-use Rattle.schedule.specs.Sweep.{Entry, fromEdges, toEdges, toLower, toHigher, backwardAt}
-use Rattle.schedule.proofs.WritingLaws.{room-left, room-right, wrote-append}
+use Rattle.schedule.specs.Sweep.{Entry, entry, fromEdges, toEdges, toLower, toHigher, backwardAt}
+use Rattle.schedule.proofs.WritingLaws.{length-map, length-toEdges, room-as, room-left, room-right, wrote-append}
 use Rattle.schedule.proofs.Sight.{end-bytes, nodes-few, edges-few, higher-is, lower-is, few-lower}
 use Rattle.schedule.proofs.sweep.backward_at.Statement.{statement}
 use Rattle.schedule.proofs.sweep.backward_at.Tie as tie
@@ -38,12 +38,12 @@ count-edges-requires : tie.Need-count-edges-requires
 count-edges-requires c κs = end-bytes (c .before .before .pre .0)
 
 from-edges-requires : tie.Need-from-edges-requires
-unfolding backwardAt
+unfolding backwardAt fromEdges
 from-edges-requires c κs =
     let q = c .before .before .before .before in
     let k = q .pre .0 in (
       (omega (arith, end-bytes k), edges-few k, omega (arith, nodes-few k, q .pre .1 .0)),
-      rw (higher-is k (q .args .u)) (room-left (received q) (sent q) (q .pre .1 .1)),
+      rw (higher-is k (q .args .u)) (room-as (length-map (λ e. entry 2 (q .args .u) e 1) (toHigher (I q) (q .args .u))) (room-left (received q) (sent q) (q .pre .1 .1))),
     )
 
 add-to-edges : tie.Need-add-to-edges
@@ -59,7 +59,7 @@ to-edges-requires c κs =
     let n = few-lower k (q .pre .1 .0) in
     let w = rw (higher-is k (q .args .u)) at (c .before .before .before .from-edges .ensures) in (
       (end-bytes k, edges-few k, omega (arith, nodes-few k, q .pre .1 .0)),
-      ((omega (arith, counted g, ap length e), omega (arith, counted g)), rw (e, counted g) (room-right (received q) (sent q) w (q .pre .1 .1))),
+      ((omega (arith, counted g, ap length e), omega (arith, counted g)), rw e (room-as (length-toEdges (q .args .u) (length (toLower (I q) (q .args .u))) (toLower (I q) (q .args .u))) (room-right (received q) (sent q) w (q .pre .1 .1)))),
     )
 
 same-length : tie.Need-same-length

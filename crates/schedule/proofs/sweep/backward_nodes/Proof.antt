@@ -1,5 +1,6 @@
 -- `backward_nodes` meets its contract: a list for each node, falling.
-use Prim.Native.Nat.{_≤_}
+use mathlib.Core.Path.{_≡_}
+use Prim.Native.Nat.{suc, _-_, _≤_}
 use native.Mathlib.Omega.{arith}
 use denote.Ref.{now}
 use Rattle.instance.specs.Sheet.{instanceOf}
@@ -27,7 +28,8 @@ backward-at-requires c κs =
     let p = c .before .before in
     let q = p .before .before .before in
     let h = c .before .loop-test .taken in
-    (q .pre .0, (omega (arith, p .loop .inv .0, h), falling-room (backwardAt (instanceOf (now (q .args .sheet)))) (p .loop .inv .1) h (q .pre .1)))
+    let e : p .loop .u ≡ suc (p .loop .u - 1) = omega (arith, h) in
+    (q .pre .0, (omega (arith, p .loop .inv .0, h), falling-room (backwardAt (instanceOf (now (q .args .sheet)))) (p .loop .inv .1) e (q .pre .1)))
 
 loop-less : tie.Need-loop-less Inv-loop μ-loop
 loop-less c = omega arith
@@ -37,7 +39,8 @@ loop-again c =
     let i = c .before .before .before .before in
     let p = i .before in
     let a = p .before .before .before .args in
-    (omega (arith, p .loop .inv .0), falling-more (backwardAt (instanceOf (now (a .sheet)))) (p .loop .inv .1) (i .loop-test .taken) (c .before .before .backward-at .ensures))
+    let e : p .loop .u ≡ suc (p .loop .u - 1) = omega (arith, i .loop-test .taken) in
+    (omega (arith, p .loop .inv .0), falling-more (backwardAt (instanceOf (now (a .sheet)))) (p .loop .inv .1) e (c .before .before .backward-at .ensures))
 
 same-length : tie.Need-same-length Inv-loop μ-loop
 same-length c = writing-size _ (c .before .loop .inv .1)

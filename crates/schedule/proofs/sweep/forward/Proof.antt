@@ -3,6 +3,7 @@ use mathlib.Core.List.{List, _++_}
 use native.Mathlib.Omega.{arith}
 use borrow.Author.Needs.{needs}
 use denote.Ref.{now}
+use lib.ListN.{length}
 use Rattle.integers.specs.Places.{range}
 use Rattle.instance.specs.Instance.{Instance}
 use Rattle.instance.specs.Sheet.{instanceOf}
@@ -20,7 +21,7 @@ module _ (q : tie.Start) where
   abbrev nodes : List Entry
   nodes = each (forwardAt I) (range 0 (I .nodeCount))
 
-  room : Room (now (q .args .out)) 0 (nodes ++ rounding)
+  room : Room (now (q .args .out)) 0 (length (nodes ++ rounding))
   unfolding forward
   room = room-whole (nodes ++ rounding) (q .pre .1)
 
