@@ -1,0 +1,367 @@
+//! Pseudo-random sheets, valid and damaged.
+
+use crate::twin::{
+    MARK, MAX_DEGREE, MAX_EDGES, MAX_EDGE_CELLS, MAX_LABELS, MAX_LENGTH, MAX_NODES, MAX_PRICE, TRAILER,
+};
+
+/// SplitMix64.
+pub struct Rng(pub u64);
+
+impl Rng {
+    pub fn next(&mut self) -> u64 {
+        self.0 = self.0.wrapping_add(0x9E37_79B9_7F4A_7C15);
+        let mut word = self.0;
+        word = (word ^ (word >> 30)).wrapping_mul(0xBF58_476D_1CE4_E5B9);
+        word = (word ^ (word >> 27)).wrapping_mul(0x94D0_49BB_1331_11EB);
+        word ^ (word >> 31)
+    }
+
+    /// Below the bound; 0 for a bound of 0.
+    pub fn below(&mut self, bound: usize) -> usize {
+        (self.next() >> 11) as usize % bound.max(1)
+    }
+
+    /// Both ends may come.
+    pub fn between(&mut self, low: i64, high: i64) -> i64 {
+        low + self.below((high - low + 1) as usize) as i64
+    }
+
+    pub fn percent(&mut self, chance: usize) -> bool {
+        self.below(100) < chance
+    }
+
+    pub fn byte(&mut self) -> u8 {
+        self.next() as u8
+    }
+
+    pub fn pick<T: Copy>(&mut self, from: &[T]) -> T {
+        from[self.below(from.len())]
+    }
+
+    pub fn shuffle<T>(&mut self, items: &mut [T]) {
+        for last in (1..items.len()).rev() {
+            items.swap(last, self.below(last + 1));
+        }
+    }
+}
+
+/// The sections of a sheet; the trailer follows from them.
+#[derive(Clone, Default)]
+pub struct Parts {
+    pub label_limit: usize,
+    pub degrees: Vec<u8>,
+    pub labels: Vec<u8>,
+    pub node_prices: Vec<i32>,
+    pub ends: Vec<[u8; 2]>,
+    pub edge_prices: Vec<i32>,
+}
+
+impl Parts {
+    pub fn bytes(&self) -> Vec<u8> {
+        let mut out = self.degrees.clone();
+        out.extend(&self.labels);
+        let node_prices = out.len();
+        out.extend(self.node_prices.iter().flat_map(|price| price.to_le_bytes()));
+        out.extend(self.ends.as_flattened());
+        let edge_prices = out.len();
+        out.extend(self.edge_prices.iter().flat_map(|price| price.to_le_bytes()));
+        let length = out.len() + TRAILER;
+        out.extend([self.degrees.len() as u8, self.label_limit as u8]);
+        out.extend((self.ends.len() as u16).to_le_bytes());
+        out.extend(((length - node_prices) as u32).to_le_bytes());
+        out.extend(((length - edge_prices) as u32).to_le_bytes());
+        out.extend(MARK);
+        out
+    }
+
+    fn table_cells(&self, [u, v]: [u8; 2]) -> usize {
+        usize::from(self.degrees[usize::from(u)]) * usize::from(self.degrees[usize::from(v)])
+    }
+
+    /// Adds a node with these labels, which need not be sorted.
+    fn add_node(&mut self, mut labels: Vec<u8>) {
+        labels.sort_unstable();
+        self.degrees.push(labels.len() as u8);
+        self.labels.extend(labels);
+    }
+
+    /// Takes the edges in order as long as the tables stay within `cells`.
+    fn set_edges(&mut self, mut ends: Vec<[u8; 2]>, cells: usize) {
+        let mut sum = 0;
+        ends.retain(|&pair| {
+            let grown = sum + self.table_cells(pair);
+            let fits = grown <= cells;
+            sum = if fits { grown } else { sum };
+            fits
+        });
+        ends.sort_unstable();
+        self.ends = ends;
+    }
+
+    fn set_prices(&mut self, rng: &mut Rng, prices: Prices) {
+        let cells = self.ends.iter().map(|&pair| self.table_cells(pair)).sum();
+        self.node_prices = (0..self.labels.len()).map(|_| prices.draw(rng)).collect();
+        self.edge_prices = (0..cells).map(|_| prices.draw(rng)).collect();
+    }
+}
+
+#[derive(Clone, Copy)]
+enum Prices {
+    Small,
+    Wide,
+    Ends,
+    Zero,
+}
+
+impl Prices {
+    fn draw(self, rng: &mut Rng) -> i32 {
+        let limit = i64::from(MAX_PRICE);
+        (match self {
+            Prices::Small => rng.between(-9, 9),
+            Prices::Wide => rng.between(-limit, limit),
+            Prices::Ends => rng.pick(&[-limit, 0, limit]),
+            Prices::Zero => 0,
+        }) as i32
+    }
+}
+
+/// `degree` of the first labels of a shuffled universe.
+fn some_labels(rng: &mut Rng, universe: &mut [u8], degree: usize) -> Vec<u8> {
+    rng.shuffle(universe);
+    universe[..degree].to_vec()
+}
+
+fn all_pairs(nodes: usize) -> Vec<[u8; 2]> {
+    let nodes = nodes as u8;
+    (0..nodes).flat_map(|u| (u + 1..nodes).map(move |v| [u, v])).collect()
+}
+
+/// What a random sheet is drawn from.
+struct Shape {
+    nodes: usize,
+    label_limit: usize,
+    least_degree: usize,
+    most_degree: usize,
+    /// At most so many edges.
+    edges: usize,
+    /// At most so many cells in their tables.
+    cells: usize,
+}
+
+/// A sheet at the limits; the shapes below are less of it.
+const FULL: Shape = Shape {
+    nodes: MAX_NODES,
+    label_limit: MAX_LABELS,
+    least_degree: 1,
+    most_degree: MAX_DEGREE,
+    edges: MAX_EDGES,
+    cells: MAX_EDGE_CELLS,
+};
+
+impl Shape {
+    fn draw(self, rng: &mut Rng) -> Parts {
+        let mut parts = Parts { label_limit: self.label_limit, ..Parts::default() };
+        let mut universe: Vec<u8> = (0..self.label_limit as u8).collect();
+        for _ in 0..self.nodes {
+            let degree = rng.between(self.least_degree as i64, self.most_degree as i64) as usize;
+            let labels = some_labels(rng, &mut universe, degree.min(self.label_limit));
+            parts.add_node(labels);
+        }
+        let mut pairs = all_pairs(self.nodes);
+        rng.shuffle(&mut pairs);
+        pairs.truncate(self.edges);
+        parts.set_edges(pairs, self.cells);
+        let prices = rng.pick(&[Prices::Small, Prices::Wide, Prices::Wide, Prices::Ends, Prices::Zero]);
+        parts.set_prices(rng, prices);
+        parts
+    }
+}
+
+/// A valid sheet of some shape.
+pub fn valid(rng: &mut Rng) -> Parts {
+    match rng.below(12) {
+        0 => Shape { nodes: 0, label_limit: label_limit(rng, 0), ..FULL }.draw(rng),
+        1..=4 => {
+            let label_limit = 1 + rng.below(9);
+            Shape { nodes: rng.below(7), label_limit, most_degree: 4, edges: rng.below(16), ..FULL }.draw(rng)
+        }
+        5..=7 => Shape {
+            nodes: rng.below(MAX_NODES + 1),
+            label_limit: label_limit(rng, 1),
+            most_degree: 1 + rng.below(MAX_DEGREE),
+            edges: rng.below(MAX_EDGES + 1),
+            ..FULL
+        }
+        .draw(rng),
+        8 => Shape { least_degree: MAX_DEGREE, ..FULL }.draw(rng),
+        9 => Shape { least_degree: 4, most_degree: 4, ..FULL }.draw(rng),
+        10 => star(rng),
+        _ => Shape { most_degree: 3, ..FULL }.draw(rng),
+    }
+}
+
+fn label_limit(rng: &mut Rng, least: i64) -> usize {
+    if rng.percent(30) {
+        MAX_LABELS
+    } else {
+        rng.between(least, MAX_LABELS as i64) as usize
+    }
+}
+
+/// One node with an edge to every other: the largest shares.
+fn star(rng: &mut Rng) -> Parts {
+    let nodes = rng.pick(&[2, 9, MAX_NODES]);
+    let mut parts = Shape { nodes, most_degree: 8, edges: 0, ..FULL }.draw(rng);
+    let hub = rng.pick(&[0, nodes - 1]) as u8;
+    let spokes = (0..nodes as u8).filter(|&node| node != hub);
+    let ends = spokes.map(|node| [node.min(hub), node.max(hub)]).collect();
+    parts.set_edges(ends, MAX_EDGE_CELLS);
+    parts.set_prices(rng, Prices::Wide);
+    parts
+}
+
+/// The two sheets of the benchmark: every node also has the label of its own number, so that one
+/// matching is known: `identity`.
+pub fn bench_sheets(seed: u64) -> [(&'static str, Parts); 2] {
+    let rng = &mut Rng(seed);
+    let shapes = [("64 nodes of degree 16, 16 edges", 16, 16), ("64 nodes of degree 4, 256 edges", 4, 256)];
+    shapes.map(|(name, degree, edges)| {
+        let mut parts = Parts { label_limit: MAX_LABELS, ..Parts::default() };
+        for node in 0..MAX_NODES as u8 {
+            let mut others: Vec<u8> = (0..MAX_LABELS as u8).filter(|&label| label != node).collect();
+            let mut labels = some_labels(rng, &mut others, degree - 1);
+            labels.push(node);
+            parts.add_node(labels);
+        }
+        let mut pairs = all_pairs(MAX_NODES);
+        rng.shuffle(&mut pairs);
+        pairs.truncate(edges);
+        parts.set_edges(pairs, MAX_EDGE_CELLS);
+        parts.set_prices(rng, Prices::Wide);
+        (name, parts)
+    })
+}
+
+/// The positions at which each node has the label of its own number.
+pub fn identity(parts: &Parts) -> Vec<u8> {
+    let mut labels = parts.labels.as_slice();
+    let mut positions = Vec::new();
+    for (node, &degree) in (0_u8..).zip(&parts.degrees) {
+        let (own, rest) = labels.split_at(usize::from(degree));
+        positions.push(own.iter().position(|&label| label == node).unwrap_or(0) as u8);
+        labels = rest;
+    }
+    positions
+}
+
+/// A sheet with something wrong, most of the time.
+pub fn damaged(rng: &mut Rng) -> Vec<u8> {
+    let mut parts = valid(rng);
+    match rng.below(4) {
+        0 => damage_bytes(rng, parts.bytes()),
+        1 => damage_trailer(rng, parts.bytes()),
+        2 => {
+            damage_parts(rng, &mut parts);
+            if rng.percent(20) {
+                damage_trailer(rng, parts.bytes())
+            } else {
+                parts.bytes()
+            }
+        }
+        _ => overfull(rng),
+    }
+}
+
+fn damage_bytes(rng: &mut Rng, mut bytes: Vec<u8>) -> Vec<u8> {
+    match rng.below(6) {
+        0 => {
+            let place = rng.below(bytes.len());
+            bytes[place] ^= 1 << rng.below(8);
+        }
+        1 => {
+            let place = rng.below(bytes.len());
+            bytes[place] = rng.byte();
+        }
+        2 => bytes.truncate(rng.below(bytes.len())),
+        3 => {
+            bytes.drain(..1 + rng.below(bytes.len()));
+        }
+        4 => {
+            let place = rng.below(bytes.len());
+            bytes.splice(place..place, (0..1 + rng.below(8)).map(|_| 0));
+        }
+        _ => {
+            let grown = rng.pick(&[MAX_LENGTH - 1, MAX_LENGTH, MAX_LENGTH + 1, MAX_LENGTH + 500]);
+            let missing = grown.saturating_sub(bytes.len());
+            let place = rng.pick(&[0, bytes.len() - TRAILER, bytes.len()]);
+            bytes.splice(place..place, (0..missing).map(|_| 0));
+        }
+    }
+    bytes
+}
+
+/// Every byte of the trailer, the distances by little.
+fn damage_trailer(rng: &mut Rng, mut bytes: Vec<u8>) -> Vec<u8> {
+    let trailer = bytes.len() - TRAILER;
+    let place = trailer + rng.below(TRAILER);
+    let byte = &mut bytes[place];
+    *byte = match rng.below(3) {
+        0 => byte.wrapping_add(1),
+        1 => byte.wrapping_sub(1),
+        _ => rng.byte(),
+    };
+    bytes
+}
+
+fn damage_parts(rng: &mut Rng, parts: &mut Parts) {
+    let off_scale = [MAX_PRICE + 1, -MAX_PRICE - 1, i32::MIN, i32::MAX];
+    // Two times in five a second fault, so that the order of the checks shows.
+    for _ in 0..1 + usize::from(rng.percent(40)) {
+        match rng.below(6) {
+            0 => change(rng, &mut parts.degrees, |rng, _| rng.pick(&[0, 17, 255, 1, 16])),
+            1 => change(rng, &mut parts.labels, |rng, label| {
+                rng.pick(&[label.wrapping_add(1), 0, 63, 64, 255])
+            }),
+            2 => change(rng, &mut parts.ends, |rng, [u, v]| {
+                rng.pick(&[[v, u], [u, u], [u, 64], [255, 255], [0, 1]])
+            }),
+            3 => change(rng, &mut parts.node_prices, |rng, _| rng.pick(&off_scale)),
+            4 => change(rng, &mut parts.edge_prices, |rng, _| rng.pick(&off_scale)),
+            _ => parts.label_limit = rng.below(MAX_LABELS + 2),
+        }
+    }
+}
+
+fn change<T: Copy>(rng: &mut Rng, items: &mut [T], new: impl Fn(&mut Rng, T) -> T) {
+    if !items.is_empty() {
+        let place = rng.below(items.len());
+        items[place] = new(rng, items[place]);
+    }
+}
+
+/// Over one of the limits, or just a few bytes.
+fn overfull(rng: &mut Rng) -> Vec<u8> {
+    match rng.below(5) {
+        0 => Shape { nodes: MAX_NODES + 1, most_degree: 2, edges: 0, ..FULL }.draw(rng).bytes(),
+        1 => Shape { most_degree: 1, edges: MAX_EDGES + 1 + rng.below(20), ..FULL }.draw(rng).bytes(),
+        2 => {
+            let shape = Shape { nodes: 20, least_degree: 8, edges: 40, cells: 3 * MAX_EDGE_CELLS, ..FULL };
+            let mut parts = shape.draw(rng);
+            parts.edge_prices.truncate(MAX_EDGE_CELLS);
+            if rng.percent(50) {
+                // The ends are judged before the number of cells.
+                let last = parts.ends.len() - 1;
+                parts.ends[last] = [1, 0];
+            }
+            parts.bytes()
+        }
+        3 => Shape { nodes: 3, label_limit: MAX_LABELS + 1 + rng.below(20), ..FULL }.draw(rng).bytes(),
+        _ => {
+            let mut bytes: Vec<u8> = (0..rng.below(40)).map(|_| rng.byte() & 3).collect();
+            if rng.percent(50) {
+                bytes.extend(MARK);
+            }
+            bytes
+        }
+    }
+}

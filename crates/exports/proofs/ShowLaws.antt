@@ -1,0 +1,92 @@
+-- Showing an edge: its table ends where the next one begins, and what is shown has that many bytes.
+-- Assumes nothing.
+use mathlib.Core.Path.{_≡_, sym, ap, ap₂, _∙_}
+use mathlib.Core.List.{List, [], _∷_}
+use Prim.Native.Nat.{ℕ, _+_, _-_, _*_, _≤_, _<_}
+use native.Mathlib.Omega.{arith}
+use lib.ListN.{length, getD, drop, length-drop}
+use lib.Seq.{length-take-le}
+use Rattle.integers.proofs.Totals.{offset-more}
+use Rattle.instance.specs.declared.reading.Layout.{Layout}
+use Rattle.instance.specs.Instance.{Instance, first, tableSize, table}
+use Rattle.instance.specs.Sheet.{instanceOf}
+use Rattle.instance.specs.Layout.{layoutOf, edgeRefusalOf, edgeFrom, edgeBytes}
+use Rattle.instance.specs.Passes.{EdgeAsked}
+use Rattle.instance.proofs.LaidOut.{LaidOut, laid-out, table-inside, table-few}
+use Rattle.instance.proofs.Shown.{laid, there, unrefused, edge-inside, edge-shown, edge-placed, edge-hidden, edge-unplaced}
+use Rattle.exports.specs.Stored.{storedIn, answered}
+use Rattle.exports.specs.Reading.{spanOf, shownIn}
+
+abbrev I : List ℕ → Instance
+I s = instanceOf s
+
+-- ---- where tables begin and end
+
+module _ (s : List ℕ) {l : Layout} {e : ℕ} (q : (l ≡ layoutOf s) × (l .refusal ≡ 0) × (e ≤ l .edges)) where
+  laid-well : LaidOut s l
+  laid-well = laid-out s (q .0) (q .1)
+
+  pub edges-few : l .edges ≤ 256
+  edges-few = laid-well .edgesFew
+
+  pub table-there : e < l .edges → getD (l .tables) e 0 ≡ table (I s) e
+  table-there h = let n = laid-well .edges in laid-well .tables e (omega arith)
+
+  pub table-past : l .edges ≤ e → l .cells ≡ table (I s) e
+  table-past h =
+      let n = laid-well .edges in
+      let k : I s .edgeCount ≡ e = omega (arith, q .2) in
+      laid-well .cells ∙ ap (table (I s)) k
+
+-- ---- what is shown of an edge
+
+-- two ends of a table, so small that no sum of them wraps
+pub record Sized (s : List ℕ) (e from to : ℕ) : Type 0 where
+  pub small : from ≤ 4_096
+  pub size : to ≡ from + tableSize (I s) e
+  pub few : tableSize (I s) e ≤ 256
+
+module _ (s : List ℕ) {l : Layout} {e : ℕ} (a : EdgeAsked s l e) where
+  pub known : LaidOut s l
+  known = laid s a
+
+  pub sized : {from to : ℕ} → from ≡ table (I s) e → to ≡ table (I s) (e + 1) → Sized s e from to
+  unfolding table
+  sized f t = record {
+    small = omega (arith, f, table-inside (known .sound .proper) (there s a), known .sound .proper .cellsFew);
+    size = t ∙ offset-more (tableSize (I s)) e ∙ ap (λ (x : ℕ). x + tableSize (I s) e) (sym f);
+    few = table-few (known .sound .proper) (there s a);
+  }
+
+  from-by : {from : ℕ} → from ≡ table (I s) e → l .nodes + 5 * l .positions + 2 * l .edges + 4 * from ≡ edgeFrom s e
+  unfolding edgeFrom first instanceOf
+  from-by f = omega (arith, known .nodes, known .positions, known .edges, f)
+
+  bytes-by : {from to : ℕ} → Sized s e from to → 4 * (to - from) ≡ edgeBytes s e
+  unfolding edgeBytes
+  bytes-by z = omega (arith, z)
+
+  span-shown : (edgeFrom s e ∷ edgeBytes s e ∷ []) ≡ spanOf s e
+  unfolding spanOf
+  span-shown =
+      let z = unrefused s a in
+      let i = edge-inside s e (laid s a .sound) (there s a) in
+      let d = length-drop (edgeFrom s e) s in
+      ap₂ (λ (p b : ℕ). p ∷ b ∷ []) (sym (edge-placed s e z))
+      (sym (ap length (edge-shown s e z) ∙ length-take-le (edgeBytes s e) (drop (edgeFrom s e) s) (omega arith)))
+
+  pub span-by : {from to : ℕ} → from ≡ table (I s) e → to ≡ table (I s) (e + 1) → ((l .nodes + 5 * l .positions + 2 * l .edges + 4 * from) ∷ (4 * (to - from)) ∷ []) ≡ spanOf s e
+  span-by f t = ap₂ (λ (p b : ℕ). p ∷ b ∷ []) (from-by f) (bytes-by (sized f t)) ∙ span-shown
+
+module _ (s : List ℕ) (e : ℕ) where
+  span-hidden : (edgeRefusalOf s e ≡ 0 → ⊥) → (0 ∷ 0 ∷ []) ≡ spanOf s e
+  unfolding spanOf
+  span-hidden z = ap₂ (λ (p b : ℕ). p ∷ b ∷ []) (sym (edge-unplaced s e z)) (sym (ap length (edge-hidden s e z)))
+
+  -- a number and a span stored
+  pub shown-by : {k : ℕ} (span : List ℕ) {lent : List ℕ} → k ≡ edgeRefusalOf s e → lent ≡ storedIn 2 (spanOf s e) span → answered k lent ≡ shownIn s e span
+  unfolding shownIn
+  shown-by span r m = ap₂ answered r m
+
+  pub hidden-by : {k : ℕ} (span : List ℕ) {lent : List ℕ} → k ≡ edgeRefusalOf s e → (k ≡ 0 → ⊥) → lent ≡ storedIn 2 (0 ∷ 0 ∷ []) span → answered k lent ≡ shownIn s e span
+  hidden-by span r z m = shown-by span r (m ∙ ap (λ (v : List ℕ). storedIn 2 v span) (span-hidden (λ h. z (r ∙ h))))

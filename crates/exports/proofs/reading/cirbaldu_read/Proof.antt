@@ -1,0 +1,142 @@
+-- `cirbaldu_read` meets its contract: the three parts are lent one after the other.
+use mathlib.Core.Path.{_≡_, sym, ap, _∙_}
+use mathlib.Core.List.{List}
+use Prim.Native.Nat.{ℕ}
+use native.Mathlib.Omega.{arith}
+use lib.ListN.{length, take}
+use lib.Seq.{length-take-le}
+use denote.Ref.{now}
+use Rattle.instance.specs.declared.reading.Layout.{Layout}
+use Rattle.instance.specs.Layout.{layoutOf}
+use Rattle.exports.specs.Reading.{numbersOf}
+use Rattle.exports.proofs.ReadLaws.{starts-long, tables-long, counts-long, numbers-by}
+use Rattle.exports.proofs.StoreLaws.{stored, unstored, second-long, third-long, all-put}
+use borrow.Author.Needs.{needs}
+use Rattle.exports.proofs.reading.cirbaldu_read.Statement.{statement}
+use Rattle.exports.proofs.reading.cirbaldu_read.Tie as tie
+
+six-taken : (l : List ℕ) → length l ≡ 326 → length (take 6 l) ≡ 6
+six-taken l h = length-take-le 6 l (omega arith)
+
+-- the counts are stored
+module _ (p : tie.After-copy-counts) where
+  abbrev start : tie.Start
+  start = p .before .before .before .before .before .before .before .before
+
+  abbrev sheet : List ℕ
+  sheet = now (start .args .sheet)
+
+  abbrev answer : List ℕ
+  answer = now (start .args .answer)
+
+  abbrev layout : Layout
+  layout = p .before .before .before .before .read .result
+
+  abbrev counts : List ℕ
+  counts = p .copy-counts .last .1 .0
+
+  told : layout ≡ layoutOf sheet
+  told = p .before .before .before .before .read .ensures
+
+  long : length answer ≡ 326
+  long = p .before .before .before .before .before .if1 .taken
+
+  six : length counts ≡ 6
+  six = ap length (p .copy-counts .ensures) ∙ counts-long layout
+
+  starts-are : length (layout .starts) ≡ 64
+  starts-are = ap (λ (l : Layout). length (l .starts)) told ∙ starts-long sheet
+
+  tables-are : length (layout .tables) ≡ 256
+  tables-are = ap (λ (l : Layout). length (l .tables)) told ∙ tables-long sheet
+
+-- and the node starts
+module _ (m : tie.After-copy) where
+  abbrev filled : tie.After-copy-counts
+  filled = m .before .before .before .before .before
+
+  abbrev starts : List ℕ
+  starts = m .copy .last .1 .0
+
+  more : length starts ≡ 64
+  more = ap length (m .copy .ensures) ∙ starts-are filled
+
+read-requires : tie.Need-read-requires
+read-requires c κs = search needs
+
+slice-relend-prefix-copy-counts : tie.Need-slice-relend-prefix-copy-counts
+slice-relend-prefix-copy-counts c = search needs
+
+slice-aggregate-copy-counts : tie.Need-slice-aggregate-copy-counts
+slice-aggregate-copy-counts c = sym (six-taken (c .before .before .before .before .before .before .before .args .answer .now) (c .before .before .before .before .if1 .taken))
+
+copy-counts-requires : tie.Need-copy-counts-requires
+copy-counts-requires c κs = six-taken (now (c .before .before .before .before .before .before .before .args .answer)) (c .before .before .before .before .if1 .taken)
+
+slice-aggregate-copy : tie.Need-slice-aggregate-copy
+slice-aggregate-copy c = search needs
+
+sub-copy : tie.Need-sub-copy
+sub-copy c = search needs
+
+part-copy-start : tie.Need-part-copy-start
+part-copy-start c = search needs
+
+part-copy-end : tie.Need-part-copy-end
+part-copy-end c = search needs
+
+copy-requires : tie.Need-copy-requires
+copy-requires c κs = let p = c .before .before .before .before in second-long (answer p) (counts p) (long p) (six p) ∙ sym (starts-are p)
+
+slice-aggregate-copy-2 : tie.Need-slice-aggregate-copy-2
+slice-aggregate-copy-2 c = search needs
+
+sub-copy-2 : tie.Need-sub-copy-2
+sub-copy-2 c = search needs
+
+part-copy-start-2 : tie.Need-part-copy-start-2
+part-copy-start-2 c = search needs
+
+part-copy-end-2 : tie.Need-part-copy-end-2
+part-copy-end-2 c = search needs
+
+copy-requires-2 : tie.Need-copy-requires-2
+copy-requires-2 c κs = let p = c .before .before .before .before in third-long (answer (filled p)) (counts (filled p)) (long (filled p)) (six (filled p)) (starts p) (more p) ∙ sym (tables-are (filled p))
+
+same-length : tie.Need-same-length
+same-length c = search needs
+
+returns : tie.Need-returns
+returns c =
+    let m = c .before .before .before .before .before .before .before in
+    let p = filled m in
+    all-put (answer p) (counts p) (long p) (six p) (starts m) (more m) (c .before .before .copy2 .last .1 .0)
+    ∙ numbers-by (layout p) (p .copy-counts .ensures) (m .copy .ensures) (c .before .before .copy2 .ensures)
+    ∙ ap numbersOf (told p) ∙ stored 326 (numbersOf (layoutOf (sheet p))) (answer p) (long p)
+
+returns-2 : tie.Need-returns-2
+returns-2 c =
+    let q = c .before .before .before in
+    unstored 326 (numbersOf (layoutOf (now (q .args .sheet)))) (now (q .args .answer)) (c .if1 .left)
+
+pub cirbaldu-read-spec : {M : Type 1} → statement M
+cirbaldu-read-spec =
+    tie.close
+    (tie.spec
+    read-requires
+    slice-relend-prefix-copy-counts
+    slice-aggregate-copy-counts
+    copy-counts-requires
+    slice-aggregate-copy
+    sub-copy
+    part-copy-start
+    part-copy-end
+    copy-requires
+    slice-aggregate-copy-2
+    sub-copy-2
+    part-copy-start-2
+    part-copy-end-2
+    copy-requires-2
+    same-length
+    returns
+    returns-2)
