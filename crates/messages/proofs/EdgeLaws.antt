@@ -18,7 +18,7 @@ use Rattle.integers.specs.Sum.{Within}
 use Rattle.integers.specs.Places.{tabulate, range, select, every}
 use Rattle.integers.specs.Checks.{below}
 use Rattle.integers.specs.Rows.{part}
-use Rattle.integers.proofs.Parts.{linear, sub, neg, abs}
+use Rattle.integers.proofs.Parts.{linear, sub, neg, abs, apart}
 use Rattle.integers.proofs.Order.{le-trans, le-antisymm}
 use Rattle.integers.proofs.Least.{least-of-le, le-least}
 use Rattle.integers.proofs.Share.{down-toward, abs-le}
@@ -29,7 +29,7 @@ use Rattle.integers.proofs.Checks.{below-ext}
 use Rattle.rules.specs.Calls.{filmOut}
 use Rattle.messages.specs.EdgeMessage.{positionIn, nodeAmounts, edgeAmounts, movedCells, movedLine, Shape, Above, over, rowLeastIn, columnLeast}
 use Rattle.messages.proofs.RowLaws.{least-of-append, least-of-within}
-use Rattle.messages.proofs.OverLaws.{length-over, over-at, over-zeros, over-ext, over-again, every-is, below-rows}
+use Rattle.messages.proofs.OverLaws.{length-over, over-at, over-zeros, every-is, below-rows}
 
 -- nothing given yet
 abbrev pub zeros : List ℤ
@@ -120,6 +120,13 @@ least-more f n h =
     let a = length-map (range 0 n) f in
     let b = length-range 0 n in
     ap leastOf (range-more f n) ∙ least-of-append (map f (range 0 n)) (f n ∷ []) (omega arith)
+
+-- the least of a column after its first cell, and after one cell more
+pub column-first : (l : List ℤ) (w k : ℕ) → getD l k (pos 0) ≡ columnLeast l w 1 k
+column-first l w k = let e : k ≡ w * 0 + k = omega arith in ap (λ (i : ℕ). getD l i (pos 0)) e ∙ sym (least-one (λ r. getD l (w * r + k) (pos 0)))
+
+pub column-more : (l : List ℤ) (w k n : ℕ) → 0 < n → minℤ (getD l (w * n + k) (pos 0)) (columnLeast l w n k) ≡ columnLeast l w (n + 1) k
+column-more l w k n h = sym (least-more (λ r. getD l (w * r + k) (pos 0)) n h)
 
 -- the least of some costs is that of others, of which each is one of them or above one
 least-cover : (m l : List ℤ) (f : ℕ → ℕ) → 0 < length m → 0 < length l → ((k : ℕ) → k < length m → leastOf l ≤ℤ getD m k (pos 0))
@@ -224,6 +231,25 @@ module _ (w h : ℕ) (l : List ℤ) (s : Shape w h l) where
   some : 0 < length l
   some = omega (arith, row-in 0 h w (s .high), s)
 
+  row-of : (i : ℕ) → i < length l → i / w < h
+  row-of i g = div-lt-iff-lt-mul (s .wide) .1 (omega (arith, s .size))
+
+  row-below : (i : ℕ) → i < length l → rowLeastIn l w (i / w) ≤ℤ getD l i (pos 0)
+  row-below i g =
+      let r : i % w < w = mod-lt i (s .wide) in
+      let e : i / w * w + i % w ≡ i = div-add-mod' i w in
+      subst (λ (x : ℤ). rowLeastIn l w (i / w) ≤ℤ x) (getD-part l (i / w * w) w (i % w) (pos 0) r ∙ ap (λ (j : ℕ). getD l j (pos 0)) e)
+      (least-of-le (part l (i / w * w) w) (i % w) (pos 0) (omega (arith, row-length (i / w) (row-of i g))))
+
+  column-below : (i : ℕ) → i < length l → columnLeast l w h (i % w) ≤ℤ getD l i (pos 0)
+  column-below i g =
+      let f : ℕ → ℤ = (λ r. getD l (w * r + i % w) (pos 0)) in
+      let e : w * (i / w) + i % w ≡ i = omega (arith, div-add-mod' i w) in
+      let u = length-map (range 0 h) f in
+      let v = length-range 0 h in
+      let o = row-of i g in
+      subst (λ (x : ℤ). columnLeast l w h (i % w) ≤ℤ x) (getD-map h f (i / w) o ∙ ap (λ (j : ℕ). getD l j (pos 0)) e) (least-of-le (map f (range 0 h)) (i / w) (pos 0) (omega arith))
+
   pub least-rows : leastOf (take h (over (rowLeastIn l w) h zeros)) ≡ leastOf l
   least-rows =
       let m = over (rowLeastIn l w) h zeros in
@@ -232,14 +258,7 @@ module _ (w h : ℕ) (l : List ℤ) (s : Shape w h l) where
       let at : (k : ℕ) → k < h → getD (take h m) k (pos 0) ≡ rowLeastIn l w k = (λ k g. getD-take h m k (pos 0) g ∙ over-at (rowLeastIn l w) h zeros k (omega (arith, s)) g) in
       least-cover (take h m) l (λ i. i / w) (omega (arith, s)) some
       (λ k g. let o : k < h = omega arith in subst (λ (x : ℤ). leastOf l ≤ℤ x) (sym (at k o)) (row-order k o))
-      (λ i g. let o : i / w < h = div-lt-iff-lt-mul (s .wide) .1 (omega (arith, s .size)) in
-      let r : i % w < w = mod-lt i (s .wide) in
-      let e : i / w * w + i % w ≡ i = div-add-mod' i w in (
-        omega arith,
-        subst (λ (x : ℤ). x ≤ℤ getD l i (pos 0)) (sym (at (i / w) o))
-            (subst (λ (x : ℤ). rowLeastIn l w (i / w) ≤ℤ x) (getD-part l (i / w * w) w (i % w) (pos 0) r ∙ ap (λ (j : ℕ). getD l j (pos 0)) e)
-            (least-of-le (part l (i / w * w) w) (i % w) (pos 0) (omega (arith, row-length (i / w) o)))),
-      ))
+      (λ i g. (omega (arith, row-of i g), subst (λ (x : ℤ). x ≤ℤ getD l i (pos 0)) (sym (at (i / w) (row-of i g))) (row-below i g)))
 
   pub least-columns : leastOf (take w (over (columnLeast l w h) w zeros)) ≡ leastOf l
   least-columns =
@@ -249,37 +268,7 @@ module _ (w h : ℕ) (l : List ℤ) (s : Shape w h l) where
       let at : (k : ℕ) → k < w → getD (take w m) k (pos 0) ≡ columnLeast l w h k = (λ k g. getD-take w m k (pos 0) g ∙ over-at (columnLeast l w h) w zeros k (omega (arith, s)) g) in
       least-cover (take w m) l (λ i. i % w) (omega (arith, s)) some
       (λ k g. let o : k < w = omega arith in subst (λ (x : ℤ). leastOf l ≤ℤ x) (sym (at k o)) (column-order k o))
-      (λ i g. let o : i / w < h = div-lt-iff-lt-mul (s .wide) .1 (omega (arith, s .size)) in
-      let r : i % w < w = mod-lt i (s .wide) in
-      let f : ℕ → ℤ = (λ r. getD l (w * r + i % w) (pos 0)) in
-      let e : w * (i / w) + i % w ≡ i = omega (arith, div-add-mod' i w) in
-      let u = length-map (range 0 h) f in
-      let v = length-range 0 h in (
-        omega arith,
-        subst (λ (x : ℤ). x ≤ℤ getD l i (pos 0)) (sym (at (i % w) r))
-            (subst (λ (x : ℤ). columnLeast l w h (i % w) ≤ℤ x) (getD-map h f (i / w) o ∙ ap (λ (j : ℕ). getD l j (pos 0)) e)
-            (least-of-le (map f (range 0 h)) (i / w) (pos 0) (omega arith))),
-      ))
-
-  -- the least of each column after the first row, and after one row more
-  pub first-row : over (λ k. getD (take w l) k (pos 0)) (length (take w l)) zeros ≡ over (columnLeast l w 1) w zeros
-  first-row =
-      let g = row-in 0 h w (s .high) in
-      let n : length (take w l) ≡ w = length-take-le w l (omega (arith, s .size)) in
-      ap (λ (i : ℕ). over (λ k. getD (take w l) k (pos 0)) i zeros) n
-      ∙ over-ext (λ k. getD (take w l) k (pos 0)) (columnLeast l w 1) w zeros
-      (λ k q _. getD-take w l k (pos 0) q ∙ (let e : k ≡ w * 0 + k = omega arith in ap (λ (i : ℕ). getD l i (pos 0)) e) ∙ sym (least-one (λ r. getD l (w * r + k) (pos 0))))
-
-  pub next-row : (n : ℕ) → 0 < n → n < h
-      → over (λ k. minℤ (getD (part l (n * w) w) k (pos 0)) (getD (over (columnLeast l w n) w zeros) k (pos 0))) (length (part l (n * w) w)) (over (columnLeast l w n) w zeros)
-      ≡ over (columnLeast l w (n + 1)) w zeros
-  next-row n p q =
-      let o = over (columnLeast l w n) w zeros in
-      let f : ℕ → ℤ = (λ k. minℤ (getD (part l (n * w) w) k (pos 0)) (getD o k (pos 0))) in
-      ap (λ (i : ℕ). over f i o) (row-length n q)
-      ∙ over-again (columnLeast l w n) f (columnLeast l w (n + 1)) w zeros
-      (λ k g z. ap₂ minℤ (getD-part l (n * w) w k (pos 0) g ∙ (let e : n * w + k ≡ w * n + k = omega arith in ap (λ (i : ℕ). getD l i (pos 0)) e)) (over-at (columnLeast l w n) w zeros k z g)
-      ∙ sym (least-more (λ r. getD l (w * r + k) (pos 0)) n p))
+      (λ i g. let r : i % w < w = mod-lt i (s .wide) in (omega arith, subst (λ (x : ℤ). x ≤ℤ getD l i (pos 0)) (sym (at (i % w) r)) (column-below i g)))
 
   -- ---- the moves, row by row
 

@@ -68,10 +68,6 @@ over-again f g h n l e =
     (λ k hk q. over-at g n (over f n l) k (omega arith) q ∙ e k q hk)
     (λ k hk q. over-past g n (over f n l) k q ∙ over-past f n l k q)
 
-pub over-ext : (f g : ℕ → ℤ) (n : ℕ) (l : List ℤ) → ((k : ℕ) → k < n → k < length l → f k ≡ g k) → over f n l ≡ over g n l
-over-ext f g n l e =
-    over-is g n l (over f n l) (length-over f n l) (λ k hk q. over-at f n l k hk q ∙ e k q hk) (λ k hk q. over-past f n l k q)
-
 -- what is still to come is as it was
 pub over-drop : (f : ℕ → ℤ) (n : ℕ) (l : List ℤ) → drop n (over f n l) ≡ drop n l
 over-drop f n l =

@@ -3,15 +3,14 @@ use crate::rows::OUT;
 use crate::rows::all_half;
 use crate::rows::excess;
 use crate::rows::least_of;
+use crate::rows::less_at;
 use crate::rows::share_of;
-use crate::rows::smaller;
 ghost use mathlib.Core.Path.{_≡_};
 ghost use mathlib.Core.Bool.{true, false};
 ghost use Prim.Native.Nat.{ℕ, _^_, _≤_, _<_};
 ghost use lib.Dec.{ltb};
 ghost use lib.ListN.{length, getD, set, replicate};
 ghost use lib.IntN.{pos, negℤ, natAbs, _+ℤ_, _-ℤ_};
-ghost use Rattle.integers.specs.Least.{minℤ};
 ghost use Rattle.integers.specs.Share.{shareDown};
 ghost use Rattle.integers.specs.Sum.{Within};
 ghost use Rattle.integers.specs.Places.{every};
@@ -57,30 +56,6 @@ pub(crate) fn node_amounts(row: &[i64], share: u8) -> [i64; 16]
     amounts
 }
 
-// Puts a row into the array's first places.
-fn copy_row(least: &mut [i64; 16], row: &[i64])
-    requires { ⌜ (length (now row) ≤ 16) × (length (now least) ≡ 16) ⌝ }
-    ensures { λ _. ⌜ now (least .exit) ≡ over (λ k. getD (now (row .entry)) k (pos 0)) (length (now (row .entry))) (now (least .entry)) ⌝ }
-{
-    let mut k = 0;
-    while k < row.len() {
-        least[k] = row[k];
-        k += 1;
-    }
-}
-
-// Keeps in each place the less of what stands there and the row's cost.
-fn lower_row(least: &mut [i64; 16], row: &[i64])
-    requires { ⌜ (length (now row) ≤ 16) × (length (now least) ≡ 16) ⌝ }
-    ensures { λ _. ⌜ now (least .exit) ≡ over (λ k. minℤ (getD (now (row .entry)) k (pos 0)) (getD (now (least .entry)) k (pos 0))) (length (now (row .entry))) (now (least .entry)) ⌝ }
-{
-    let mut k = 0;
-    while k < row.len() {
-        least[k] = smaller(row[k], least[k]);
-        k += 1;
-    }
-}
-
 // What the least of each of the first `width` places gives.
 fn turn_all(least: &mut [i64; 16], width: usize, low: i64, share: u8)
     requires { ⌜ (width ≤ 16) × (length (now least) ≡ 16) ⌝ }
@@ -95,19 +70,32 @@ fn turn_all(least: &mut [i64; 16], width: usize, low: i64, share: u8)
     }
 }
 
+// The least of the column `k` of an edge's table.
+fn column_low(cells: &[i64], width: usize, height: usize, k: usize) -> i64
+    requires { ⌜ Shape width height (now cells) ⌝ }
+    requires { ⌜ k < width ⌝ }
+    ensures { λ r. ⌜ r ≡ columnLeast (now (cells .entry)) width height k ⌝ }
+{
+    let mut best = cells[k];
+    let mut at = k + width;
+    let mut r = 1;
+    while r < height {
+        best = less_at(cells, at, best);
+        at += width;
+        r += 1;
+    }
+    best
+}
+
 // The least of each column of an edge's table.
 fn column_least(cells: &[i64], width: usize, height: usize) -> [i64; 16]
     requires { ⌜ Shape width height (now cells) ⌝ }
     ensures { λ r. ⌜ r ≡ over (columnLeast (now (cells .entry)) width height) width (replicate 16 (pos 0)) ⌝ }
 {
     let mut least = [0; 16];
-    copy_row(&mut least, &cells[..width]);
-    let mut k = 1;
-    let mut a = width;
-    while k < height {
-        let b = a + width;
-        lower_row(&mut least, &cells[a..b]);
-        a = b;
+    let mut k = 0;
+    while k < width {
+        least[k] = column_low(cells, width, height, k);
         k += 1;
     }
     least

@@ -40,7 +40,7 @@ pub(crate) fn minus(a: i64, b: i64) -> i64
 }
 
 // The less of a cost of a row and the best so far.
-fn less_at(row: &[i64], i: usize, best: i64) -> i64
+pub(crate) fn less_at(row: &[i64], i: usize, best: i64) -> i64
     requires { ⌜ i < length (now row) ⌝ }
     ensures { λ r. ⌜ r ≡ minℤ (getD (now (row .entry)) i (pos 0)) best ⌝ }
 {

@@ -1,10 +1,9 @@
 -- `fill_none` meets its contract.
-use Prim.Native.Nat.{ℕ, _+_, _-_, _*_}
+use Prim.Native.Nat.{_-_}
 use native.Mathlib.Omega.{arith}
-use mathlib.Core.Path.{ap, sym, _∙_}
+use mathlib.Core.Path.{_∙_}
 use borrow.Author.Needs.{needs}
-use lib.ListN.{length, set}
-use lib.IntN.{ℤ, pos}
+use lib.ListN.{length}
 use denote.Ref.{now}
 use Rattle.messages.proofs.FillLaws.{Filling, fill-none, fill-more, fill-all, tabulate-same}
 use Rattle.messages.proofs.filling.fill_none.Statement.{statement}
