@@ -1,4 +1,5 @@
 -- Laws of the sweeps, and of writing them.
+pub mod Agrees
 pub mod WritingLaws
 pub mod CountLaws
 pub mod Lengths

