@@ -5,11 +5,12 @@ use mathlib.Core.Bool.{Bool, true, false, cond}
 use mathlib.Core.List.{List, [], _∷_, _++_, map}
 use mathlib.Core.List.{List·Memᴰ as Mem, List·Memᴰ·head as here, List·Memᴰ·tail as there}
 use Prim.Native.Nat.{ℕ, zero, suc, _+_, _*_, _≤_, _<_}
+use native.Mathlib.Nat.{not-suc-le-zero}
 use native.Mathlib.Omega.{arith}
 use borrow.Author.Tests.{eq-eqb, ne-eqb, eqb-true, eqb-false, ltb-true, ltb-false}
 use lib.Dec.{eqb, ltb}
-use lib.ListN.{length, getD, set, replicate, length-set, length-replicate, getD-replicate, length-append}
-use lib.Seq.{getD-set-same, getD-set-other}
+use lib.ListN.{length, getD, set, take, replicate, length-set, length-replicate, getD-replicate, length-append, List·getD-append}
+use lib.Seq.{getD-set-same, getD-set-other, take-append-le, take-append-seam, getD-append-seam}
 use Rattle.integers.specs.Places.{range, select}
 use Rattle.integers.proofs.Places.{by-test, map-ext, range-mem}
 use Rattle.integers.proofs.Ranges.{range-add, select-append}
@@ -55,6 +56,33 @@ select-past t n e = ap (select t) (range-next n) ∙ select-append t (range 0 n)
 
 pub having-ext : (f g : ℕ → ℕ) (m : ℕ) → ((i : ℕ) → i < m → f i ≡ g i) → (l : ℕ) → having f l m ≡ having g l m
 having-ext f g m h l = select-ext (λ i. eqb (f i) l) (λ i. eqb (g i) l) (range 0 m) (λ i b. ap (λ (k : ℕ). eqb k l) (h i (let c = range-mem 0 m b in omega arith)))
+
+-- the n-th thing of a key, those ahead of it, and it with them
+pub at-place : (key : ℕ → ℕ) (l m n : ℕ) → n < length (having key l m) → let e = getD (having key l m) n 0 in (key e ≡ l) × (having key l e ≡ take n (having key l m))
+unfolding range select
+at-place key l zero n h = absurd (not-suc-le-zero h)
+at-place key l (suc m) n h =
+    let z : m + 1 ≡ suc m = omega arith in
+    by-test (eqb (key m) l)
+    (λ t. let e : having key l (suc m) ≡ having key l m ++ m ∷ [] = ap (having key l) (sym z) ∙ select-next (λ i. eqb (key i) l) m t in last t e (at-place key l m n))
+    (λ t. let e : having key l (suc m) ≡ having key l m = ap (having key l) (sym z) ∙ select-past (λ i. eqb (key i) l) m t in
+    subst (λ (k : List ℕ). (key (getD k n 0) ≡ l) × (having key l (getD k n 0) ≡ take n k)) (sym e) (at-place key l m n (omega (arith, ap length e))))
+  where
+    last : eqb (key m) l ≡ true → having key l (suc m) ≡ having key l m ++ m ∷ []
+        → (n < length (having key l m) → (key (getD (having key l m) n 0) ≡ l) × (having key l (getD (having key l m) n 0) ≡ take n (having key l m)))
+        → (key (getD (having key l (suc m)) n 0) ≡ l) × (having key l (getD (having key l (suc m)) n 0) ≡ take n (having key l (suc m)))
+    last t e before =
+        let k = having key l m in
+        let c : length (k ++ m ∷ []) ≡ length k + 1 = length-append k (m ∷ []) in
+        subst (λ (k : List ℕ). (key (getD k n 0) ≡ l) × (having key l (getD k n 0) ≡ take n k)) (sym e)
+        (by-test (ltb n (length k))
+        (λ b. let q = ltb-true n (length k) b in
+        let a = before q in
+        let g : getD (k ++ m ∷ []) n 0 ≡ getD k n 0 = List·getD-append k (m ∷ []) 0 n q in
+        (ap key g ∙ a .0, ap (having key l) g ∙ a .1 ∙ sym (take-append-le n k (m ∷ []) (omega arith))))
+        (λ b. let q : n ≡ length k = omega (arith, ltb-false n (length k) b, ap length e) in
+        let g : getD (k ++ m ∷ []) n 0 ≡ m = ap (λ (i : ℕ). getD (k ++ m ∷ []) i 0) q ∙ getD-append-seam k m [] 0 in
+        (ap key g ∙ eqb-true (key m) l t, ap (having key l) g ∙ sym (ap (λ (i : ℕ). take i (k ++ m ∷ [])) q ∙ take-append-seam k (m ∷ [])))))
 
 -- ---- making it
 
@@ -173,3 +201,31 @@ indexed-ext {f} {g} {m} {n} {index} e h x = record {
   rows = λ l b. x .rows l b ∙ having-ext f g m h l ∙ ap (having g l) e;
   inside = λ l j b c. let a = x .inside l j b c in omega arith;
 }
+
+-- ---- how many things a key can have: as many as a rising number of theirs has values
+
+module _ (key g : ℕ → ℕ) (l m : ℕ) (up : (i j : ℕ) → i < j → j < m → key i ≡ l → key j ≡ l → g i < g j) where
+  ahead : (n i : ℕ) → n ≤ i → i < m → key i ≡ l → length (having key l n) ≤ g i
+  unfolding range select
+  ahead zero i h b k = omega arith
+  ahead (suc n) i h b k =
+      let z : n + 1 ≡ suc n = omega arith in
+      by-test (eqb (key n) l)
+      (λ t. let q = eqb-true (key n) l t in
+      let e : length (having key l (suc n)) ≡ length (having key l n) + 1 = ap (λ (j : ℕ). length (having key l j)) (sym z) ∙ ap length (select-next (λ j. eqb (key j) l) n t) ∙ length-append (having key l n) (n ∷ []) in
+      let r = ahead n n (omega arith) (omega arith) q in
+      let w = up n i (omega arith) b q k in omega arith)
+      (λ t. let e : length (having key l (suc n)) ≡ length (having key l n) = ap (λ (j : ℕ). length (having key l j)) (sym z) ∙ ap length (select-past (λ j. eqb (key j) l) n t) in
+      let r = ahead n i (omega arith) b k in omega arith)
+
+  pub few-by : (bound : ℕ) → ((i : ℕ) → i < m → g i < bound) → (n : ℕ) → n ≤ m → length (having key l n) ≤ bound
+  unfolding range select
+  few-by bound h zero b = omega arith
+  few-by bound h (suc n) b =
+      let z : n + 1 ≡ suc n = omega arith in
+      by-test (eqb (key n) l)
+      (λ t. let e : length (having key l (suc n)) ≡ length (having key l n) + 1 = ap (λ (j : ℕ). length (having key l j)) (sym z) ∙ ap length (select-next (λ j. eqb (key j) l) n t) ∙ length-append (having key l n) (n ∷ []) in
+      let r = ahead n n (omega arith) (omega arith) (eqb-true (key n) l t) in
+      let w = h n (omega arith) in omega arith)
+      (λ t. let e : length (having key l (suc n)) ≡ length (having key l n) = ap (λ (j : ℕ). length (having key l j)) (sym z) ∙ ap length (select-past (λ j. eqb (key j) l) n t) in
+      let r = few-by bound h n (omega arith) in omega arith)

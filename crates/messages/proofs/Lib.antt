@@ -15,6 +15,7 @@ pub mod EdgeLaws
 pub mod IndexLaws
 pub mod RivalLaws
 pub mod RoundingLaws
+pub mod HighLaws
 pub mod RoundTurns
 pub mod LentLaws
 pub mod ReportLaws

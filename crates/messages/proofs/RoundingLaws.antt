@@ -31,6 +31,8 @@ use Rattle.rules.specs.Calls.{filmOut}
 use Rattle.rules.specs.Costs.{Costs, position}
 use Rattle.rules.specs.Rounding.{best, bestFrom}
 use Rattle.rules.proofs.Rounding.{best-mem}
+use Rattle.messages.specs.Index.{having}
+use Rattle.messages.proofs.IndexLaws.{select-next, select-past}
 use Rattle.messages.specs.Rounded.{costsBy, added, keyBelow, keysBelow, rowOf, edgeAdded, orNone, better, chosenFrom, Placed, Tabled, EdgeAsked, RoundAsked}
 use Rattle.messages.specs.World.{Seen}
 use Rattle.messages.proofs.Sight.{whole, proper, nodes-few, node-byte, degree-is, end-bytes, start-is}
@@ -234,6 +236,26 @@ module _ (d : ℕ) where
 pub zeros-within : Within (2 ^ 50) (replicate 16 (pos 0))
 zeros-within = subst (λ (l : List ℤ). Within (2 ^ 50) l) (sym (keys-zero 0)) (keys-within 0 (2 ^ 50) (λ k. pos 0) (λ k. omega arith))
 
+-- a sum over the things of one key
+sumOver : (ℕ → ℤ) → List ℕ → ℤ
+sumOver f [] = pos 0
+sumOver f (e ∷ l) = f e +ℤ sumOver f l
+
+sum-last : (f : ℕ → ℤ) (l : List ℕ) (e : ℕ) → sumOver f (l ++ e ∷ []) ≡ sumOver f l +ℤ f e
+unfolding sumOver
+sum-last f [] e = omega (linear, add (f e) (pos 0), add (pos 0) (f e))
+sum-last f (d ∷ l) e = ap (λ (z : ℤ). f d +ℤ z) (sum-last f l e) ∙ (let s = sumOver f l in omega (linear, add (f d) (s +ℤ f e), add s (f e), add (f d +ℤ s) (f e), add (f d) s))
+
+total-having : (key : ℕ → ℕ) (u : ℕ) (f : ℕ → ℤ) (m : ℕ) → total m (λ e. only (eqb (key e) u) (f e)) ≡ sumOver f (having key u m)
+unfolding total range select sumOver only
+total-having key u f zero = refl
+total-having key u f (suc m) =
+    let z : m + 1 ≡ suc m = omega arith in
+    let h = total-having key u f m in
+    by-test (eqb (key m) u)
+    (λ t. ap₂ _+ℤ_ h (if-true (f m) (pos 0) t) ∙ sym (sum-last f (having key u m) m) ∙ ap (sumOver f) (sym (select-next (λ e. eqb (key e) u) m t) ∙ ap (having key u) z))
+    (λ t. ap₂ _+ℤ_ h (if-false (f m) (pos 0) t) ∙ sym (zero-right (sumOver f (having key u m))) ∙ ap (sumOver f) (sym (select-past (λ e. eqb (key e) u) m t) ∙ ap (having key u) z))
+
 -- sums of costs
 total-small : (f : ℕ → ℤ) → ((i : ℕ) → natAbs (f i) ≤ filmOut) → (n : ℕ) → natAbs (total n f) ≤ n * filmOut
 unfolding total
@@ -305,6 +327,14 @@ module _ (I : Instance) (nodes edges : List ℤ) (x : List ℕ) (u : ℕ) where
   pub keys-turn : (e : ℕ) (keys next : List ℤ) → keys ≡ keysBelow I c x u e → next ≡ edgeAdded I edges x u e keys
       → (I .high e ≡ u → table I e + I .degree (I .high e) * position x (I .low e) + I .degree (I .high e) ≤ length edges) → next ≡ keysBelow I c x u (e + 1)
   keys-turn e keys next p q room = q ∙ ap (edgeAdded I edges x u e) p ∙ keys-more e room
+
+  -- edges that do not touch u change nothing: the keys go by the edges whose higher end is u
+  pub keys-skip : (a b : ℕ) → having (I .high) u a ≡ having (I .high) u b → keysBelow I c x u a ≡ keysBelow I c x u b
+  unfolding keysBelow keyBelow
+  keys-skip a b e =
+      keys-ext (I .degree u) (keyBelow I c x u a) (keyBelow I c x u b)
+      (λ k. let f : ℕ → ℤ = (λ e. c .edge (cell I e (position x (I .low e)) k)) in
+      ap (λ (z : ℤ). c .node (first I u + k) +ℤ z) (total-having (I .high) u f a ∙ ap (sumOver f) e ∙ sym (total-having (I .high) u f b)))
 
 -- ---- the row of an edge
 

@@ -19,6 +19,7 @@ use Rattle.rules.specs.Calls.{filmOut}
 use Rattle.rules.specs.Costs.{Costs, position}
 use Rattle.rules.specs.Rounding.{best}
 use Rattle.messages.specs.World.{Seen}
+use Rattle.messages.specs.Index.{Indexed}
 use Rattle.messages.specs.declared.rounding.Rounding.{Rounding}
 
 -- the costs of lent node and edge buffers
@@ -105,3 +106,7 @@ pub record RoundAsked (s : List ℕ) (n ends : ℕ) (starts tables : List ℕ) (
   pub cells : length edges ≡ edgeCells (instanceOf s)
   pub nodesSmall : Within filmOut nodes
   pub edgesSmall : Within filmOut edges
+
+-- the index of the edges by their higher ends
+abbrev pub Lowers : List ℕ → List ℕ → Type 0
+Lowers s lowers = Indexed (instanceOf s .high) (instanceOf s .edgeCount) lowers

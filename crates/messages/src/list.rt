@@ -2,6 +2,7 @@
 use crate::answers::Answer;
 use crate::index::index_by;
 use crate::lent::lent_refusal;
+use crate::rounding::edges_by_high;
 use crate::turn::next_record;
 use instance::Layout;
 use instance::read;
@@ -17,6 +18,7 @@ ghost use Rattle.rules.specs.Calls.{filmOut, lentRefusal, runOf};
 ghost use Rattle.messages.specs.World.{lent, Seen};
 ghost use Rattle.messages.specs.Incumbent.{Priced};
 ghost use Rattle.messages.specs.LabelMessage.{Holders};
+ghost use Rattle.messages.specs.Rounded.{Lowers};
 ghost use Rattle.messages.specs.Turn.{Good};
 ghost use Rattle.messages.specs.Answers.{ranAs};
 
@@ -28,6 +30,7 @@ fn run_all(
     starts: &[usize; 64],
     tables: &[usize; 256],
     holders: &[u16; 4160],
+    lowers: &[u16; 4160],
     prices: usize,
     cells: usize,
     count: usize,
@@ -38,7 +41,7 @@ fn run_all(
     incumbent: &mut [u8],
 ) -> Answer
     requires { ⌜ Seen (now sheet) n ends (now starts) (now tables) ⌝ }
-    requires { ⌜ Holders (now sheet) (now holders) ⌝ }
+    requires { ⌜ Holders (now sheet) (now holders) × Lowers (now sheet) (now lowers) ⌝ }
     requires { ⌜ Priced (now sheet) prices cells count ⌝ }
     requires { ⌜ Good (now sheet) (lent (now nodes) (now labels) (now edges) (now incumbent)) ⌝ }
     requires { ⌜ length (now records) % 5 ≡ 0 ⌝ }
@@ -55,6 +58,7 @@ fn run_all(
             starts,
             tables,
             holders,
+            lowers,
             prices,
             cells,
             count,
@@ -105,6 +109,7 @@ fn run_good(
     let starts = layout.starts;
     let tables = layout.tables;
     let holders = index_by(&sheet[n..prices]);
+    let lowers = edges_by_high(sheet, n, ends, count);
     run_all(
         sheet,
         n,
@@ -112,6 +117,7 @@ fn run_good(
         &starts,
         &tables,
         &holders,
+        &lowers,
         prices,
         cells,
         count,

@@ -10,7 +10,7 @@ ghost use Rattle.instance.specs.Sheet.{instanceOf};
 ghost use Rattle.rules.specs.Rounding.{round};
 ghost use Rattle.messages.specs.World.{Seen};
 ghost use Rattle.messages.specs.Incumbent.{Priced};
-ghost use Rattle.messages.specs.Rounded.{costsBy};
+ghost use Rattle.messages.specs.Rounded.{costsBy, Lowers};
 ghost use Rattle.messages.specs.RoundRecord.{RoundFit, roundMove, roundLeft, roundTaken};
 
 // How many roundings were stuck, 0 or 1, and the refusal.
@@ -26,6 +26,7 @@ fn round_and_adopt(
     ends: usize,
     starts: &[usize; 64],
     tables: &[usize; 256],
+    lowers: &[u16; 4160],
     prices: usize,
     cells: usize,
     count: usize,
@@ -35,10 +36,10 @@ fn round_and_adopt(
 ) -> usize
     requires { ⌜ Seen (now sheet) n ends (now starts) (now tables) ⌝ }
     requires { ⌜ Priced (now sheet) prices cells count ⌝ }
-    requires { ⌜ RoundFit (now sheet) (now nodes) (now edges) (now incumbent) ⌝ }
+    requires { ⌜ RoundFit (now sheet) (now nodes) (now edges) (now incumbent) × Lowers (now sheet) (now lowers) ⌝ }
     ensures { λ r. ⌜ roundMove (now (incumbent .exit)) r 0 ≡ roundLeft (instanceOf (now (sheet .entry))) (round (instanceOf (now (sheet .entry))) (costsBy (now (nodes .entry)) (now (edges .entry)))) (now (incumbent .entry)) ⌝ }
 {
-    let rounding = round_all(sheet, n, ends, starts, tables, count, nodes, edges);
+    let rounding = round_all(sheet, n, ends, starts, tables, lowers, count, nodes, edges);
     if rounding.stuck {
         return 1;
     }
@@ -77,6 +78,7 @@ pub(crate) fn round_record(
     ends: usize,
     starts: &[usize; 64],
     tables: &[usize; 256],
+    lowers: &[u16; 4160],
     prices: usize,
     cells: usize,
     count: usize,
@@ -89,7 +91,7 @@ pub(crate) fn round_record(
 ) -> Taken
     requires { ⌜ Seen (now sheet) n ends (now starts) (now tables) ⌝ }
     requires { ⌜ Priced (now sheet) prices cells count ⌝ }
-    requires { ⌜ RoundFit (now sheet) (now nodes) (now edges) (now incumbent) ⌝ }
+    requires { ⌜ RoundFit (now sheet) (now nodes) (now edges) (now incumbent) × Lowers (now sheet) (now lowers) ⌝ }
     ensures { λ r. ⌜ roundMove (now (incumbent .exit)) (r .stuck) (r .refusal) ≡ roundTaken (instanceOf (now (sheet .entry))) (now (nodes .entry)) (now (edges .entry)) (now (incumbent .entry)) u index share ⌝ }
 {
     if names_nothing(u, index, share) {
@@ -99,6 +101,7 @@ pub(crate) fn round_record(
             ends,
             starts,
             tables,
+            lowers,
             prices,
             cells,
             count,

@@ -5,12 +5,15 @@ ghost use Prim.Native.Nat.{ℕ, _≤_, _<_, _^_};
 ghost use lib.ListN.{length, getD};
 ghost use lib.IntN.{pos};
 ghost use Rattle.integers.specs.Sum.{Within};
+ghost use Rattle.integers.specs.Checks.{padded};
 ghost use Rattle.instance.specs.Instance.{nodeCells, edgeCells};
 ghost use Rattle.instance.specs.Sheet.{instanceOf};
 ghost use Rattle.rules.specs.Calls.{filmOut};
 ghost use Rattle.rules.specs.Rounding.{round};
-ghost use Rattle.messages.specs.World.{Seen};
-ghost use Rattle.messages.specs.Rounded.{costsBy, roundedBy, added, keysBelow, edgeAdded, better, chosenFrom, Placed, EdgeAsked, ChooseAsked, RoundAsked};
+ghost use Rattle.messages.specs.World.{Known, Seen};
+ghost use Rattle.messages.specs.Rounded.{costsBy, roundedBy, added, keysBelow, edgeAdded, better, chosenFrom, Placed, EdgeAsked, ChooseAsked, RoundAsked, Lowers};
+use crate::index::index_by;
+use crate::index::number;
 use crate::world::wide;
 
 // What rounding answers: a position for each node, or that no label was left for one.
@@ -59,12 +62,13 @@ fn add_edge(
     }
 }
 
-// The keys of the positions of `u`: node costs, and edge cells to the nodes below it.
+// The keys of the positions of `u`: node costs, and edge cells to the nodes below it, by the edges of which `u` is the higher end.
 fn keys_of(
     sheet: &[u8],
     ends: usize,
     starts: &[usize; 64],
     tables: &[usize; 256],
+    lowers: &[u16; 4160],
     edge_count: usize,
     nodes: &[i64],
     edges: &[i64],
@@ -73,17 +77,20 @@ fn keys_of(
 ) -> [i64; 16]
     requires { ⌜ RoundAsked (now sheet) (instanceOf (now sheet) .nodeCount) ends (now starts) (now tables) «edge_count» (now nodes) (now edges) ⌝ }
     requires { ⌜ u < instanceOf (now sheet) .nodeCount ⌝ }
-    requires { ⌜ Placed (now sheet) (now positions) u ⌝ }
+    requires { ⌜ Placed (now sheet) (now positions) u × Lowers (now sheet) (now lowers) ⌝ }
     ensures { λ r. ⌜ r ≡ keysBelow (instanceOf (now (sheet .entry))) (costsBy (now (nodes .entry)) (now (edges .entry))) (now (positions .entry)) u «edge_count» ⌝ }
 {
     let start = starts[u];
     let end = start + wide(sheet[u]);
     let mut keys = [0i64; 16];
     add_cells(&mut keys, &nodes[start..end]);
-    let mut e = 0;
-    while e < edge_count {
+    let row = 65 * u;
+    let past = row + 1 + number(lowers[row]);
+    let mut at = row + 1;
+    while at < past {
+        let e = number(lowers[at]);
         add_edge(sheet, ends, tables, edges, positions, u, e, &mut keys);
-        e += 1;
+        at += 1;
     }
     keys
 }
@@ -119,6 +126,31 @@ fn choose(sheet: &[u8], at: usize, degree: usize, keys: &[i64; 16], untaken: &[b
     best
 }
 
+// The higher ends of the edges, one after another.
+fn high_ends(sheet: &[u8], n: usize, ends: usize, count: usize) -> [u8; 256]
+    requires { ⌜ Known (now sheet) n ends ⌝ }
+    requires { ⌜ count ≡ instanceOf (now sheet) .edgeCount ⌝ }
+    ensures { λ r. ⌜ r ≡ padded 256 count (instanceOf (now (sheet .entry)) .high) ⌝ }
+{
+    let mut highs = [0u8; 256];
+    let mut e = 0;
+    while e < count {
+        highs[e] = sheet[ends + 2 * e + 1];
+        e += 1;
+    }
+    highs
+}
+
+// The index of the edges by their higher ends.
+pub(crate) fn edges_by_high(sheet: &[u8], n: usize, ends: usize, count: usize) -> [u16; 4160]
+    requires { ⌜ Known (now sheet) n ends ⌝ }
+    requires { ⌜ count ≡ instanceOf (now sheet) .edgeCount ⌝ }
+    ensures { λ r. ⌜ Lowers (now (sheet .entry)) r ⌝ }
+{
+    let highs = high_ends(sheet, n, ends, count);
+    index_by(&highs[..count])
+}
+
 // The answer where no label is left.
 fn stuck() -> Rounding
     ensures { λ r. ⌜ r ≡ roundedBy none ⌝ }
@@ -136,6 +168,7 @@ pub(crate) fn round_all(
     ends: usize,
     starts: &[usize; 64],
     tables: &[usize; 256],
+    lowers: &[u16; 4160],
     edge_count: usize,
     nodes: &[i64],
     edges: &[i64],
@@ -144,14 +177,14 @@ pub(crate) fn round_all(
     requires { ⌜ «edge_count» ≡ instanceOf (now sheet) .edgeCount ⌝ }
     requires { ⌜ length (now nodes) ≡ nodeCells (instanceOf (now sheet)) ⌝ }
     requires { ⌜ length (now edges) ≡ edgeCells (instanceOf (now sheet)) ⌝ }
-    requires { ⌜ Within filmOut (now nodes) × Within filmOut (now edges) ⌝ }
+    requires { ⌜ Within filmOut (now nodes) × Within filmOut (now edges) × Lowers (now sheet) (now lowers) ⌝ }
     ensures { λ r. ⌜ r ≡ roundedBy (round (instanceOf (now (sheet .entry))) (costsBy (now (nodes .entry)) (now (edges .entry)))) ⌝ }
 {
     let mut x = [0u8; 64];
     let mut untaken = [true; 64];
     let mut u = 0;
     while u < n {
-        let keys = keys_of(sheet, ends, starts, tables, edge_count, nodes, edges, &x, u);
+        let keys = keys_of(sheet, ends, starts, tables, lowers, edge_count, nodes, edges, &x, u);
         let at = n + starts[u];
         let k = choose(sheet, at, wide(sheet[u]), &keys, &untaken);
         if k == 16 {

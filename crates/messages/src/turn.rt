@@ -15,6 +15,7 @@ ghost use Rattle.rules.specs.Calls.{filmOut};
 ghost use Rattle.messages.specs.World.{lent, Seen, Fit};
 ghost use Rattle.messages.specs.Incumbent.{Priced};
 ghost use Rattle.messages.specs.LabelMessage.{Holders};
+ghost use Rattle.messages.specs.Rounded.{Lowers};
 ghost use Rattle.messages.specs.Step.{settle, settled};
 ghost use Rattle.messages.specs.Turn.{Good};
 
@@ -92,6 +93,7 @@ fn one_record(
     starts: &[usize; 64],
     tables: &[usize; 256],
     holders: &[u16; 4160],
+    lowers: &[u16; 4160],
     prices: usize,
     cells: usize,
     count: usize,
@@ -105,7 +107,7 @@ fn one_record(
     share: u8,
 ) -> Taken
     requires { ⌜ Seen (now sheet) n ends (now starts) (now tables) ⌝ }
-    requires { ⌜ Holders (now sheet) (now holders) ⌝ }
+    requires { ⌜ Holders (now sheet) (now holders) × Lowers (now sheet) (now lowers) ⌝ }
     requires { ⌜ Priced (now sheet) prices cells count ⌝ }
     requires { ⌜ Good (now sheet) (lent (now nodes) (now labels) (now edges) (now incumbent)) ⌝ }
     ensures { λ r. ⌜ settle (lent (now (nodes .exit)) (now (labels .exit)) (now (edges .exit)) (now (incumbent .exit))) (r .stuck) (r .refusal) ≡ settled (lent (now (nodes .entry)) (now (labels .entry)) (now (edges .entry)) (now (incumbent .entry))) (effect (instanceOf (now (sheet .entry))) filmOut (lent (now (nodes .entry)) (now (labels .entry)) (now (edges .entry)) (now (incumbent .entry))) (kindOf kind) u index share) ⌝ }
@@ -117,6 +119,7 @@ fn one_record(
             ends,
             starts,
             tables,
+            lowers,
             prices,
             cells,
             count,
@@ -160,6 +163,7 @@ pub(crate) fn next_record(
     starts: &[usize; 64],
     tables: &[usize; 256],
     holders: &[u16; 4160],
+    lowers: &[u16; 4160],
     prices: usize,
     cells: usize,
     count: usize,
@@ -170,7 +174,7 @@ pub(crate) fn next_record(
     incumbent: &mut [u8],
 ) -> Taken
     requires { ⌜ Seen (now sheet) n ends (now starts) (now tables) ⌝ }
-    requires { ⌜ Holders (now sheet) (now holders) ⌝ }
+    requires { ⌜ Holders (now sheet) (now holders) × Lowers (now sheet) (now lowers) ⌝ }
     requires { ⌜ Priced (now sheet) prices cells count ⌝ }
     requires { ⌜ Good (now sheet) (lent (now nodes) (now labels) (now edges) (now incumbent)) ⌝ }
     requires { ⌜ 5 ≤ length (now bytes) ⌝ }
@@ -185,6 +189,7 @@ pub(crate) fn next_record(
         starts,
         tables,
         holders,
+        lowers,
         prices,
         cells,
         count,

@@ -19,11 +19,11 @@ use Rattle.messages.proofs.list.run_all.Statement.{statement}
 use Rattle.messages.proofs.list.run_all.Tie as tie
 
 abbrev Inv-loop : tie.InvT-loop
-Inv-loop sheet n ends starts tables holders prices cells count records nodes₀ labels₀ edges₀ incumbent₀ at₀ done₀ stuck₀ nodes labels edges incumbent at done stuck =
+Inv-loop sheet n ends starts tables holders lowers prices cells count records nodes₀ labels₀ edges₀ incumbent₀ at₀ done₀ stuck₀ nodes labels edges incumbent at done stuck =
     Going sheet records (lent nodes₀ labels₀ edges₀ incumbent₀) (lent nodes labels edges incumbent) at done stuck
 
 abbrev μ-loop : tie.MeasureT-loop
-μ-loop sheet n ends starts tables holders prices cells count records nodes₀ labels₀ edges₀ incumbent₀ at₀ done₀ stuck₀ nodes labels edges incumbent at done stuck =
+μ-loop sheet n ends starts tables holders lowers prices cells count records nodes₀ labels₀ edges₀ incumbent₀ at₀ done₀ stuck₀ nodes labels edges incumbent at done stuck =
     length records - at
 
 -- what is lent first
@@ -54,7 +54,7 @@ module _ (p : tie.After-next-record Inv-loop μ-loop) where
   b = lent (p .before .before .before .before .before .before .before .loop .nodes) (p .before .before .before .before .before .before .before .loop .labels) (p .before .before .before .before .before .before .before .loop .edges) (p .before .before .before .before .before .before .before .loop .incumbent)
 
   abbrev left : Buffers
-  left = lent (p .next-record .last .1 .1 .1 .1 .1 .1 .1 .1 .1 .1 .0) (p .next-record .last .1 .1 .1 .1 .1 .1 .1 .1 .1 .1 .1 .0) (p .next-record .last .1 .1 .1 .1 .1 .1 .1 .1 .1 .1 .1 .1 .0) (p .next-record .last .1 .1 .1 .1 .1 .1 .1 .1 .1 .1 .1 .1 .1 .0)
+  left = lent (p .next-record .last .1 .1 .1 .1 .1 .1 .1 .1 .1 .1 .1 .0) (p .next-record .last .1 .1 .1 .1 .1 .1 .1 .1 .1 .1 .1 .1 .0) (p .next-record .last .1 .1 .1 .1 .1 .1 .1 .1 .1 .1 .1 .1 .1 .0) (p .next-record .last .1 .1 .1 .1 .1 .1 .1 .1 .1 .1 .1 .1 .1 .1 .0)
 
   going : Going (now (start .args .sheet)) l (lends start) b at (p .before .before .before .before .before .before .before .loop .done) (p .before .before .before .before .before .before .before .loop .stuck)
   going = p .before .before .before .before .before .before .before .loop .inv

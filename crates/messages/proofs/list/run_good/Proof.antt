@@ -73,12 +73,16 @@ module _ (q : tie.Start) where
 index-by-requires : tie.Need-index-by-requires
 index-by-requires c κs = let q = c .before .before .before .before .before .before .before .before in subst (λ (l : List ℕ). Indexable l) (sym (bytes q)) (labels-indexable (known q))
 
+edges-by-high-requires : tie.Need-edges-by-high-requires
+edges-by-high-requires c κs = let q = c .before .before .before .before .before .before .before .before .before in (known q, priced-of (sheet q) (q .pre .0) (unread q) .count)
+
 run-all-requires : tie.Need-run-all-requires
 run-all-requires c κs =
-    let i = c .before .before .before .before .before .before .before in
+    let h = c .before .before .before .before .before .before .before .before in
+    let i = h .before in
     let q = i .before .before .before .before .before .before .before .before .before in
     let holders = labels-indexed (known q) (subst (λ (l : List ℕ). Indexed (λ j. getD l j 0) (length l) (i .index-by .result)) (bytes q) (i .index-by .ensures)) in
-    (seen-of (sheet q) (q .pre .0) (unread q), (holders, (priced-of (sheet q) (q .pre .0) (unread q), (good-of (sheet q) (lends q) (well q), q .pre .1 .1))))
+    (seen-of (sheet q) (q .pre .0) (unread q), ((holders, h .edges-by-high .ensures), (priced-of (sheet q) (q .pre .0) (unread q), (good-of (sheet q) (lends q) (well q), q .pre .1 .1))))
 
 same-length : tie.Need-same-length
 same-length c = search needs
@@ -108,6 +112,7 @@ run-good-spec =
     part-index-by-start
     part-index-by-end
     index-by-requires
+    edges-by-high-requires
     run-all-requires
     same-length
     same-length-2

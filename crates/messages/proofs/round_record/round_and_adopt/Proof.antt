@@ -28,8 +28,8 @@ module _ (p : tie.After-round-all) where
 round-all-requires : tie.Need-round-all-requires
 round-all-requires c κs =
     let q = c .before .before in
-    let f = q .pre .1 .1 in
-    (q .pre .0, (q .pre .1 .0 .count, (f .nodeLength, (f .edgeLength, (f .nodeRange, f .edgeRange)))))
+    let f = q .pre .1 .1 .0 in
+    (q .pre .0, (q .pre .1 .0 .count, (f .nodeLength, (f .edgeLength, (f .nodeRange, f .edgeRange, q .pre .1 .1 .1)))))
 
 returns : tie.Need-returns
 returns c =
@@ -52,7 +52,7 @@ adopt-requires c κs =
     let p = t .before in
     let q = p .before .before .before in
     let a = q .args in
-    let f = q .pre .1 .1 in
+    let f = q .pre .1 .1 .0 in
     let k = q .pre .0 .known in (
       q .pre .0,
       (

@@ -17,11 +17,11 @@ use Rattle.messages.proofs.rounding.round_all.Statement.{statement}
 use Rattle.messages.proofs.rounding.round_all.Tie as tie
 
 abbrev Inv-loop : tie.InvT-loop
-Inv-loop sheet n ends starts tables edge-count nodes edges x₀ untaken₀ u₀ x untaken u =
+Inv-loop sheet n ends starts tables lowers edge-count nodes edges x₀ untaken₀ u₀ x untaken u =
     RoundTurn sheet n nodes edges x untaken u
 
 abbrev μ-loop : tie.MeasureT-loop
-μ-loop sheet n ends starts tables edge-count nodes edges x₀ untaken₀ u₀ x untaken u =
+μ-loop sheet n ends starts tables lowers edge-count nodes edges x₀ untaken₀ u₀ x untaken u =
     n - u
 
 -- what was asked
@@ -78,7 +78,7 @@ loop-holds : tie.Need-loop-holds Inv-loop μ-loop
 loop-holds c = round-start (now (c .before .args .sheet)) (c .before .args .n) (now (c .before .args .nodes)) (now (c .before .args .edges))
 
 keys-of-requires : tie.Need-keys-of-requires Inv-loop μ-loop
-keys-of-requires c κs = (counted (asked (c .before .before .before .before)), (node (c .before) .exists, c .before .before .loop .inv .placed))
+keys-of-requires c κs = (counted (asked (c .before .before .before .before)), (node (c .before) .exists, (c .before .before .loop .inv .placed, c .before .before .before .before .pre .1 .1 .1 .1 .2)))
 
 mul-at : tie.Need-mul-at Inv-loop μ-loop
 mul-at c = omega (arith, node (c .before .before))

@@ -20,7 +20,7 @@ abbrev lends : tie.Start → Buffers
 lends q = lent (now (q .args .nodes)) (now (q .args .labels)) (now (q .args .edges)) (now (q .args .incumbent))
 
 round-record-requires : tie.Need-round-record-requires
-round-record-requires c κs = let q = c .before .before .before .before .before .before in (q .pre .0, (q .pre .1 .1 .0, round-fit (q .pre .1 .1 .1)))
+round-record-requires c κs = let q = c .before .before .before .before .before .before in (q .pre .0, (q .pre .1 .1 .0, (round-fit (q .pre .1 .1 .1), q .pre .1 .0 .1)))
 
 same-length : tie.Need-same-length
 same-length c = search needs
@@ -59,7 +59,7 @@ message-requires : tie.Need-message-requires
 message-requires c κs =
     let t = c .before .before .before in
     let q = t .before .before .before .before .before in
-    (q .pre .0, (q .pre .1 .0, (q .pre .1 .1 .0 .count, (fit (q .pre .1 .1 .1), (omega (arith, t .before .if2 .left), omega (arith, t .if3 .left, t .before .before .if1 .left))))))
+    (q .pre .0, (q .pre .1 .0 .0, (q .pre .1 .1 .0 .count, (fit (q .pre .1 .1 .1), (omega (arith, t .before .if2 .left), omega (arith, t .if3 .left, t .before .before .if1 .left))))))
 
 refused-requires-3 : tie.Need-refused-requires-3
 refused-requires-3 c κs = search needs
