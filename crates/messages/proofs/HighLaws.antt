@@ -19,9 +19,9 @@ use Rattle.rules.specs.Costs.{position}
 use Rattle.instance.specs.Sheet.{instanceOf}
 use Rattle.instance.proofs.LaidOut.{low-inside}
 use Rattle.messages.specs.World.{Known}
-use Rattle.messages.specs.Index.{having, many, held, Indexed, Indexable}
+use Rattle.messages.specs.Index.{having, many, Indexed, Indexable}
 use Rattle.messages.specs.Rounded.{costsBy, keysBelow, edgeAdded}
-use Rattle.messages.proofs.IndexLaws.{having-ext, indexed-ext, few-by, many-is, at-place, select-next}
+use Rattle.messages.proofs.IndexLaws.{append-map, having-ext, indexed-ext, few-by, many-is, at-place, select-next}
 use Rattle.messages.proofs.RoundingLaws.{keys-turn, keys-skip}
 use Rattle.messages.proofs.Sight.{proper}
 use Rattle.messages.proofs.LabelMoveLaws.{rises}
@@ -68,10 +68,6 @@ module _ {s : List ℕ} {n ends : ℕ} (w : Known s n ends) where
     highs-indexed x = indexed-ext (high-count ∙ all) (λ i h. high-is i (omega (arith, high-count))) x
 
 -- ---- the keys of u, one edge of its row after another
-
-append-map : (f : ℕ → ℕ) (k l : List ℕ) → map f (k ++ l) ≡ map f k ++ map f l
-append-map f [] l = refl
-append-map f (x ∷ k) l = ap (λ (t : List ℕ). f x ∷ t) (append-map f k l)
 
 module _ (I : Instance) (nodes edges : List ℤ) (x : List ℕ) (u : ℕ) (index : List ℕ) where
   abbrev g : ℕ → ℕ

@@ -18,9 +18,9 @@ use Rattle.messages.specs.Index.{having, many, held, Indexed, entered}
 
 -- ---- lists
 
-append-map : (f : ℕ → ℕ) (k l : List ℕ) → map f (k ++ l) ≡ map f k ++ map f l
+pub append-map : {A : Type 0} (f : ℕ → A) (k l : List ℕ) → map f (k ++ l) ≡ map f k ++ map f l
 append-map f [] l = refl
-append-map f (x ∷ k) l = ap (λ (t : List ℕ). f x ∷ t) (append-map f k l)
+append-map {A = A} f (x ∷ k) l = ap (λ (t : List A). f x ∷ t) (append-map f k l)
 
 length-map : (f : ℕ → ℕ) (l : List ℕ) → length (map f l) ≡ length l
 length-map f [] = refl

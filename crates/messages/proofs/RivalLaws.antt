@@ -24,13 +24,9 @@ use Rattle.messages.specs.World.{Known}
 use Rattle.messages.specs.Index.{having, held, Indexed, Indexable}
 use Rattle.messages.specs.LabelMessage.{labelRival}
 use Rattle.messages.proofs.RowLaws.{least-parts}
-use Rattle.messages.proofs.IndexLaws.{having-ext, indexed-ext}
+use Rattle.messages.proofs.IndexLaws.{append-map, having-ext, indexed-ext}
 use Rattle.messages.proofs.Sight.{proper, whole, label-is}
 use Rattle.messages.proofs.LabelMoveLaws.{rises}
-
-append-map : {A : Type 0} (f : ℕ → A) (k l : List ℕ) → map f (k ++ l) ≡ map f k ++ map f l
-append-map f [] l = refl
-append-map {A = A} f (x ∷ k) l = ap (λ (t : List A). f x ∷ t) (append-map f k l)
 
 -- ---- the rivals of the place `own` in a row of the index, one after another
 

@@ -39,7 +39,7 @@ fn round_and_adopt(
     requires { ⌜ RoundFit (now sheet) (now nodes) (now edges) (now incumbent) × Lowers (now sheet) (now lowers) ⌝ }
     ensures { λ r. ⌜ roundMove (now (incumbent .exit)) r 0 ≡ roundLeft (instanceOf (now (sheet .entry))) (round (instanceOf (now (sheet .entry))) (costsBy (now (nodes .entry)) (now (edges .entry)))) (now (incumbent .entry)) ⌝ }
 {
-    let rounding = round_all(sheet, n, ends, starts, tables, lowers, count, nodes, edges);
+    let rounding = round_all(sheet, n, ends, starts, tables, lowers, nodes, edges);
     if rounding.stuck {
         return 1;
     }

@@ -69,16 +69,15 @@ fn keys_of(
     starts: &[usize; 64],
     tables: &[usize; 256],
     lowers: &[u16; 4160],
-    edge_count: usize,
     nodes: &[i64],
     edges: &[i64],
     positions: &[u8; 64],
     u: usize,
 ) -> [i64; 16]
-    requires { ⌜ RoundAsked (now sheet) (instanceOf (now sheet) .nodeCount) ends (now starts) (now tables) «edge_count» (now nodes) (now edges) ⌝ }
+    requires { ⌜ RoundAsked (now sheet) (instanceOf (now sheet) .nodeCount) ends (now starts) (now tables) (instanceOf (now sheet) .edgeCount) (now nodes) (now edges) ⌝ }
     requires { ⌜ u < instanceOf (now sheet) .nodeCount ⌝ }
     requires { ⌜ Placed (now sheet) (now positions) u × Lowers (now sheet) (now lowers) ⌝ }
-    ensures { λ r. ⌜ r ≡ keysBelow (instanceOf (now (sheet .entry))) (costsBy (now (nodes .entry)) (now (edges .entry))) (now (positions .entry)) u «edge_count» ⌝ }
+    ensures { λ r. ⌜ r ≡ keysBelow (instanceOf (now (sheet .entry))) (costsBy (now (nodes .entry)) (now (edges .entry))) (now (positions .entry)) u (instanceOf (now (sheet .entry)) .edgeCount) ⌝ }
 {
     let start = starts[u];
     let end = start + wide(sheet[u]);
@@ -169,12 +168,10 @@ pub(crate) fn round_all(
     starts: &[usize; 64],
     tables: &[usize; 256],
     lowers: &[u16; 4160],
-    edge_count: usize,
     nodes: &[i64],
     edges: &[i64],
 ) -> Rounding
     requires { ⌜ Seen (now sheet) n ends (now starts) (now tables) ⌝ }
-    requires { ⌜ «edge_count» ≡ instanceOf (now sheet) .edgeCount ⌝ }
     requires { ⌜ length (now nodes) ≡ nodeCells (instanceOf (now sheet)) ⌝ }
     requires { ⌜ length (now edges) ≡ edgeCells (instanceOf (now sheet)) ⌝ }
     requires { ⌜ Within filmOut (now nodes) × Within filmOut (now edges) × Lowers (now sheet) (now lowers) ⌝ }
@@ -184,7 +181,7 @@ pub(crate) fn round_all(
     let mut untaken = [true; 64];
     let mut u = 0;
     while u < n {
-        let keys = keys_of(sheet, ends, starts, tables, lowers, edge_count, nodes, edges, &x, u);
+        let keys = keys_of(sheet, ends, starts, tables, lowers, nodes, edges, &x, u);
         let at = n + starts[u];
         let k = choose(sheet, at, wide(sheet[u]), &keys, &untaken);
         if k == 16 {

@@ -1,6 +1,6 @@
 -- `enter` meets its contract: the thing after the others of its row, and one more of them.
 use Prim.Native.Nat.{ℕ, _+_, _*_}
-use mathlib.Core.Path.{_≡_, ap, _∙_}
+use mathlib.Core.Path.{ap, _∙_}
 use lib.ListN.{set}
 use denote.Ref.{now}
 use borrow.Author.Needs.{needs}

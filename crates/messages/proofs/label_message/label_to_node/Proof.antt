@@ -1,10 +1,8 @@
 -- `label_to_node` meets its contract: the amount, then the move the other way.
-use Prim.Native.Nat.{_+_, _≤_, _^_}
+use Prim.Native.Nat.{_+_}
 use mathlib.Core.Path.{_≡_, ap, _∙_}
-use lib.IntN.{ℤ, pos, negℤ, natAbs, _-ℤ_}
+use lib.IntN.{ℤ, pos, negℤ, _-ℤ_}
 use denote.Ref.{now}
-use mir.Syntax.{w64}
-use mir.Val.{toZ, ofZ}
 use Rattle.integers.proofs.Bits.{same}
 use Rattle.instance.specs.Sheet.{instanceOf}
 use Rattle.messages.specs.LabelMessage.{labelMoved, labelAmount}

@@ -1,5 +1,5 @@
 -- `meet` meets its contract: no rival at its own place.
-use mathlib.Core.Path.{_≡_, sym, ap₂, _∙_}
+use mathlib.Core.Path.{sym, ap₂, _∙_}
 use lib.ListN.{getD}
 use lib.IntN.{pos}
 use denote.Ref.{now}

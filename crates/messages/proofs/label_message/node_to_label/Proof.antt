@@ -1,14 +1,13 @@
 -- `node_to_label` meets its contract: the amount, then the move.
-use Prim.Native.Nat.{_+_, _<_, _≤_, _^_}
-use mathlib.Core.Path.{_≡_, ap, _∙_}
-use lib.ListN.{length}
-use lib.IntN.{ℤ, natAbs}
+use Prim.Native.Nat.{_+_, _≤_, _^_}
+use mathlib.Core.Path.{ap, _∙_}
+use lib.IntN.{natAbs}
 use denote.Ref.{now}
 use mir.Syntax.{w64}
 use mir.Val.{toZ, ofZ}
 use Rattle.integers.proofs.Bits.{same}
 use Rattle.instance.specs.Sheet.{instanceOf}
-use Rattle.messages.specs.LabelMessage.{labelMoved, nodeAmount}
+use Rattle.messages.specs.LabelMessage.{labelMoved}
 use Rattle.messages.proofs.AmountLaws.{place-in, node-fits}
 use native.Mathlib.Omega.{arith}
 use borrow.Author.Needs.{needs}

@@ -1,5 +1,5 @@
 -- `run` meets its contract: refused ahead of the records, or run.
-use mathlib.Core.Path.{_≡_, sym, _∙_}
+use mathlib.Core.Path.{sym, _∙_}
 use denote.Ref.{now}
 use Rattle.rules.specs.Costs.{Buffers}
 use Rattle.messages.specs.World.{lent}

@@ -14,7 +14,6 @@ use Rattle.messages.specs.Step.{settle, settled}
 use Rattle.messages.specs.World.{lent}
 use Rattle.messages.proofs.RunLaws.{Going, headOf, going-start, going-sized, going-end, going-room, going-bytes, going-refused, going-few, going-next}
 use native.Mathlib.Omega.{arith}
-use borrow.Author.Needs.{needs}
 use Rattle.messages.proofs.list.run_all.Statement.{statement}
 use Rattle.messages.proofs.list.run_all.Tie as tie
 

@@ -29,7 +29,7 @@ round-all-requires : tie.Need-round-all-requires
 round-all-requires c κs =
     let q = c .before .before in
     let f = q .pre .1 .1 .0 in
-    (q .pre .0, (q .pre .1 .0 .count, (f .nodeLength, (f .edgeLength, (f .nodeRange, f .edgeRange, q .pre .1 .1 .1)))))
+    (q .pre .0, (f .nodeLength, (f .edgeLength, (f .nodeRange, f .edgeRange, q .pre .1 .1 .1))))
 
 returns : tie.Need-returns
 returns c =

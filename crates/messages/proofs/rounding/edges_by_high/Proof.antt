@@ -1,6 +1,6 @@
 -- `edges_by_high` meets its contract: the higher ends of the edges, indexed.
 use Prim.Native.Nat.{ℕ, _≤_}
-use mathlib.Core.Path.{_≡_, sym, ap, _∙_, subst}
+use mathlib.Core.Path.{_≡_, sym, ap, subst}
 use mathlib.Core.List.{List}
 use native.Mathlib.Omega.{arith}
 use lib.ListN.{length, getD, take}
@@ -10,7 +10,7 @@ use Rattle.integers.proofs.Checks.{length-padded}
 use Rattle.instance.specs.Sheet.{instanceOf}
 use Rattle.messages.specs.Index.{Indexed, Indexable}
 use Rattle.messages.proofs.Sight.{proper}
-use Rattle.messages.proofs.HighLaws.{highBytes, high-count, highs-indexable, highs-indexed}
+use Rattle.messages.proofs.HighLaws.{highBytes, highs-indexable, highs-indexed}
 use borrow.Author.Needs.{needs}
 use Rattle.messages.proofs.rounding.edges_by_high.Statement.{statement}
 use Rattle.messages.proofs.rounding.edges_by_high.Tie as tie

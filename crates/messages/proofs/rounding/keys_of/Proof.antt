@@ -12,20 +12,20 @@ use Rattle.rules.specs.Costs.{position}
 use Rattle.instance.specs.Sheet.{instanceOf}
 use Rattle.rules.specs.Calls.{filmOut}
 use Rattle.integers.specs.Rows.{part}
-use Rattle.messages.specs.Rounded.{costsBy, added, keysBelow, edgeAdded}
+use Rattle.messages.specs.Rounded.{added, edgeAdded}
 use Rattle.messages.specs.Index.{many, Indexed}
 use Rattle.messages.proofs.Sight.{proper, nodes-few}
 use Rattle.messages.proofs.HighLaws.{Keyed, keyed-none, keyed-next, keyed-end, exists}
-use Rattle.messages.proofs.RoundingLaws.{zeros-within, keys-length, keys-small, keys-first, keys-turn, row-room, NodeInside, node-inside, node-read, edge-asked}
+use Rattle.messages.proofs.RoundingLaws.{zeros-within, keys-length, keys-small, keys-first, row-room, NodeInside, node-inside, node-read, edge-asked}
 use Rattle.messages.proofs.rounding.keys_of.Statement.{statement}
 use Rattle.messages.proofs.rounding.keys_of.Tie as tie
 
 abbrev Inv-loop : tie.InvT-loop
-Inv-loop sheet ends starts tables lowers edge-count nodes edges positions u start end row past keys₀ at₀ keys at =
+Inv-loop sheet ends starts tables lowers nodes edges positions u start end row past keys₀ at₀ keys at =
     (65 * u + 1 ≤ at) × (at ≤ 65 * u + 1 + many lowers u) × Keyed (instanceOf sheet) nodes edges positions u lowers (at - (65 * u + 1)) keys
 
 abbrev μ-loop : tie.MeasureT-loop
-μ-loop sheet ends starts tables lowers edge-count nodes edges positions u start end row past keys₀ at₀ keys at = 65 * u + 1 + many lowers u - at
+μ-loop sheet ends starts tables lowers nodes edges positions u start end row past keys₀ at₀ keys at = 65 * u + 1 + many lowers u - at
 
 -- the node at entry
 abbrev J : tie.Start Inv-loop μ-loop → Instance
@@ -89,8 +89,8 @@ module _ (p : tie.After-number2 Inv-loop μ-loop) where
   edge : p .number2 .result ≡ getD (now (q .args .lowers)) (from + n) 0
   edge = let z : head .loop .at ≡ from + n = omega (arith, head .loop .inv .0) in p .number2 .ensures .0 ∙ ap (λ (j : ℕ). getD (now (q .args .lowers)) j 0) z
 
-  counted : p .number2 .result < q .args .edge-count
-  counted = omega (arith, edge, exists (J q) (now (q .args .nodes)) (now (q .args .edges)) (now (q .args .positions)) (q .args .u) (now (q .args .lowers)) (indexed q) (low q) more, q .pre .0 .all)
+  counted : p .number2 .result < J q .edgeCount
+  counted = omega (arith, edge, exists (J q) (now (q .args .nodes)) (now (q .args .edges)) (now (q .args .positions)) (q .args .u) (now (q .args .lowers)) (indexed q) (low q) more)
 
 mul-start : tie.Need-mul-start Inv-loop μ-loop
 mul-start c = omega (arith, node (c .before))
@@ -158,8 +158,8 @@ loop-holds c =
     let q = c .before .before .before .before .before .before .before .before .before .before in
     let z : 65 * q .args .u + 1 - (65 * q .args .u + 1) ≡ 0 = omega arith in
     let k = keyed-none (J q) (now (q .args .nodes)) (now (q .args .edges)) (now (q .args .positions)) (q .args .u) (now (q .args .lowers))
-        (c .before .before .before .add-cells .ensures ∙ ap (added (replicate 16 (pos 0))) (read p)
-        ∙ keys-first (J q) (now (q .args .nodes)) (now (q .args .edges)) (now (q .args .positions)) (q .args .u) (node q .room)) in
+    (c .before .before .before .add-cells .ensures ∙ ap (added (replicate 16 (pos 0))) (read p)
+    ∙ keys-first (J q) (now (q .args .nodes)) (now (q .args .edges)) (now (q .args .positions)) (q .args .u) (node q .room)) in
     (omega arith, omega arith, subst (λ (m : ℕ). Keyed (J q) (now (q .args .nodes)) (now (q .args .edges)) (now (q .args .positions)) (q .args .u) (now (q .args .lowers)) m (c .before .before .before .add-cells .last .0)) (sym z) k)
 
 inside : (t : tie.In-loop Inv-loop μ-loop) → t .before .loop .at < 4160
@@ -207,8 +207,8 @@ loop-again c =
     let z : n p + 1 ≡ t .loop .at + 1 - from p = omega (arith, t .loop .inv .0) in
     let e = edge p in
     let k = keyed-next (J s) nodes edges x (a .u) (now (a .lowers)) (indexed s) (low s) (more p) (sofar t)
-        (c .before .add-edge .ensures ∙ ap (λ (m : ℕ). edgeAdded (J s) edges x (a .u) m (t .loop .keys)) e)
-        (subst (λ (m : ℕ). J s .high m ≡ a .u → table (J s) m + J s .degree (J s .high m) * position x (J s .low m) + J s .degree (J s .high m) ≤ length edges) e (row-room asked)) in
+    (c .before .add-edge .ensures ∙ ap (λ (m : ℕ). edgeAdded (J s) edges x (a .u) m (t .loop .keys)) e)
+    (subst (λ (m : ℕ). J s .high m ≡ a .u → table (J s) m + J s .degree (J s .high m) * position x (J s .low m) + J s .degree (J s .high m) ≤ length edges) e (row-room asked)) in
     (omega (arith, t .loop .inv .0), omega (arith, more p, t .loop .inv .0), subst (λ (m : ℕ). Keyed (J s) nodes edges x (a .u) (now (a .lowers)) m next) z k)
 
 returns : tie.Need-returns Inv-loop μ-loop
@@ -218,7 +218,6 @@ returns c =
     let a = s .args in
     let e : t .loop .at - (65 * a .u + 1) ≡ many (now (a .lowers)) (a .u) = omega (arith, t .loop .inv .0, t .loop .inv .1, c .loop-test .left, t .before .number .ensures .0) in
     keyed-end (J s) (now (a .nodes)) (now (a .edges)) (now (a .positions)) (a .u) (now (a .lowers)) (indexed s) (low s) (sofar t) e
-    ∙ ap (keysBelow (J s) (costsBy (now (a .nodes)) (now (a .edges))) (now (a .positions)) (a .u)) (sym (s .pre .0 .all))
 
 pub keys-of-spec : {M : Type 1} → statement M
 keys-of-spec =

@@ -1,6 +1,6 @@
 -- `round_all` meets its contract, by the laws of its turns.
 use Prim.Native.Nat.{ℕ, _+_, _-_, _<_}
-use mathlib.Core.Path.{_≡_, ap, _∙_}
+use mathlib.Core.Path.{_≡_, refl, ap, _∙_}
 use native.Mathlib.Omega.{arith}
 use borrow.Author.Needs.{needs}
 use lib.ListN.{length, getD, take}
@@ -17,22 +17,22 @@ use Rattle.messages.proofs.rounding.round_all.Statement.{statement}
 use Rattle.messages.proofs.rounding.round_all.Tie as tie
 
 abbrev Inv-loop : tie.InvT-loop
-Inv-loop sheet n ends starts tables lowers edge-count nodes edges x₀ untaken₀ u₀ x untaken u =
+Inv-loop sheet n ends starts tables lowers nodes edges x₀ untaken₀ u₀ x untaken u =
     RoundTurn sheet n nodes edges x untaken u
 
 abbrev μ-loop : tie.MeasureT-loop
-μ-loop sheet n ends starts tables lowers edge-count nodes edges x₀ untaken₀ u₀ x untaken u =
+μ-loop sheet n ends starts tables lowers nodes edges x₀ untaken₀ u₀ x untaken u =
     n - u
 
 -- what was asked
-asked : (q : tie.Start Inv-loop μ-loop) → RoundAsked (now (q .args .sheet)) (q .args .n) (q .args .ends) (now (q .args .starts)) (now (q .args .tables)) (q .args .edge-count) (now (q .args .nodes)) (now (q .args .edges))
+asked : (q : tie.Start Inv-loop μ-loop) → RoundAsked (now (q .args .sheet)) (q .args .n) (q .args .ends) (now (q .args .starts)) (now (q .args .tables)) (instanceOf (now (q .args .sheet)) .edgeCount) (now (q .args .nodes)) (now (q .args .edges))
 asked q = record {
   seen = q .pre .0;
-  all = q .pre .1 .0;
-  places = q .pre .1 .1 .0;
-  cells = q .pre .1 .1 .1 .0;
-  nodesSmall = q .pre .1 .1 .1 .1 .0;
-  edgesSmall = q .pre .1 .1 .1 .1 .1;
+  all = refl;
+  places = q .pre .1 .0;
+  cells = q .pre .1 .1 .0;
+  nodesSmall = q .pre .1 .1 .1 .0;
+  edgesSmall = q .pre .1 .1 .1 .1;
 }
 
 -- the node, in a turn
@@ -78,7 +78,7 @@ loop-holds : tie.Need-loop-holds Inv-loop μ-loop
 loop-holds c = round-start (now (c .before .args .sheet)) (c .before .args .n) (now (c .before .args .nodes)) (now (c .before .args .edges))
 
 keys-of-requires : tie.Need-keys-of-requires Inv-loop μ-loop
-keys-of-requires c κs = (counted (asked (c .before .before .before .before)), (node (c .before) .exists, (c .before .before .loop .inv .placed, c .before .before .before .before .pre .1 .1 .1 .1 .2)))
+keys-of-requires c κs = (counted (asked (c .before .before .before .before)), (node (c .before) .exists, (c .before .before .loop .inv .placed, c .before .before .before .before .pre .1 .1 .1 .2)))
 
 mul-at : tie.Need-mul-at Inv-loop μ-loop
 mul-at c = omega (arith, node (c .before .before))
