@@ -59,6 +59,13 @@ fn refused_cases() {
     show_files(b"a label", b"0021.sheet", b"0021.records");
 }
 
+// Document 01's other cases: share 64 runs, 65 is refused; price 1,000,001; distance 51 for 50.
+fn other_cases() {
+    show_files(b"shares of 64 and 65", b"sample.sheet", b"shares.records");
+    show_files(b"a price of 1,000,001", b"price.sheet", b"sample.records");
+    show_files(b"a distance of 51", b"distance.sheet", b"sample.records");
+}
+
 fn zero_sheet(name: &[u8], length: isize) {
     let zeros = io::large_buffer();
     let bytes = io::count(length, &zeros);
@@ -114,6 +121,7 @@ fn main() {
     kept_cases();
     stopped_cases();
     refused_cases();
+    other_cases();
     length_cases();
     extreme_cases();
 }
