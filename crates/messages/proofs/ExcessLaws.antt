@@ -1,16 +1,17 @@
 -- One test for many costs: each gives a number that reaches the half of the width exactly if the cost passes the limit, and these are joined by their bits.
 -- Assumes nothing.
-use mathlib.Core.Path.{_≡_, refl, sym, ap, ap₂, _∙_, subst}
-use mathlib.Core.Bool.{Bool, true, false, _&&_}
-use mathlib.Core.List.{List}
-use Prim.Native.Nat.{ℕ, suc, _+_, _-_, _%_, _^_, _≤_, _<_}
+use mathlib.Core.Path.{_≡_, refl, sym, ap, ap₂, _∙_}
+use mathlib.Core.Bool.{Bool, true, _&&_}
+use mathlib.Core.List.{List, [], _∷_}
+use Prim.Native.Nat.{ℕ, zero, suc, _+_, _-_, _*_, _%_, _^_, _≤_, _<_}
 use native.Mathlib.Nat.{not-suc-le-zero}
 use native.Mathlib.Numerals.{add-one}
 use native.Mathlib.Omega.{arith}
-use borrow.Author.Tests.{eqb-true, eqb-false, lt-ltb, le-ltb, ltb-true, ltb-false, le-leb, leb-true, leb-false}
+use borrow.Author.Count.{below-more}
+use borrow.Author.Tests.{lt-ltb, ltb-true}
 use lib.Bits.{bitOr, or-lt, or-add-and, and-le-l, and-le-r}
-use lib.Dec.{eqb, ltb, leb}
-use lib.ListN.{length, getD, List·getD-eq-default}
+use lib.Dec.{ltb}
+use lib.ListN.{length, getD}
 use lib.IntN.{ℤ, pos, negsuc, natAbs, _+ℤ_, _-ℤ_}
 use lib.Signed.{_≤ℤ_, _<ℤ_}
 use mir.Syntax.{w64}
@@ -18,12 +19,13 @@ use mir.Val.{SFits, ofZ}
 use Rattle.integers.specs.Sum.{Within}
 use Rattle.integers.specs.Places.{every}
 use Rattle.integers.specs.Checks.{below, within}
-use Rattle.integers.proofs.Parts.{linear, add, sub, abs, apart, range}
-use Rattle.integers.proofs.Places.{by-test, every-tabulate}
+use Rattle.integers.proofs.Parts.{linear, sub, abs, apart, range}
+use Rattle.integers.proofs.Sum.{abs-add}
+use Rattle.integers.proofs.Places.{both-ways, and-true, and-both, every-tabulate}
 use Rattle.integers.proofs.Ranges.{shifted}
-use Rattle.integers.proofs.Checks.{below-at, below-all}
-use Rattle.rules.specs.Calls.{filmOut}
-use Rattle.messages.proofs.RowLaws.{every-below, every-at}
+use Rattle.integers.proofs.Checks.{within-le, le-within}
+use Rattle.rules.specs.Calls.{costLimit}
+use Rattle.messages.proofs.OverLaws.{every-made}
 
 -- ---- the bits of a cost
 
@@ -41,47 +43,39 @@ pub bits-above : (z : ℤ) → pos 0 ≤ℤ z → natAbs z ≡ ofZ w64 z
 bits-above (pos n) h = refl
 bits-above (negsuc n) h = absurd (omega linear)
 
+-- 0 less the bits of a cost below 0 is its size
+pub bits-size : (z : ℤ) → SFits w64 z → z <ℤ pos 0 → (y : ℕ) → y < 2 ^ 64 → (y + ofZ w64 z) % 2 ^ 64 ≡ 0 → y ≡ natAbs z
+bits-size (pos n) f h y g e = absurd (omega linear)
+bits-size (negsuc n) f h y g e = omega linear
+
 -- ---- the test
 
--- two joined: below the half exactly if both are
-pub joined : (a b : ℕ) → ltb (bitOr a b) (2 ^ 63) ≡ (ltb a (2 ^ 63) && ltb b (2 ^ 63))
+-- two joined are no less than each, and below the half exactly if both are
+or-le : (a b : ℕ) → (a ≤ bitOr a b) × (b ≤ bitOr a b)
+or-le a b = omega (arith, or-add-and a b, and-le-l a b, and-le-r a b)
+
+joined : (a b : ℕ) → ltb (bitOr a b) (2 ^ 63) ≡ (ltb a (2 ^ 63) && ltb b (2 ^ 63))
 joined a b =
-    let s = or-add-and a b in
-    let l = and-le-l a b in
-    let r = and-le-r a b in
-    by-test (ltb a (2 ^ 63))
-    (λ p. by-test (ltb b (2 ^ 63))
-    (λ q. lt-ltb (bitOr a b) (2 ^ 63) (or-lt 63 a b (ltb-true a (2 ^ 63) p) (ltb-true b (2 ^ 63) q)) ∙ sym (ap₂ _&&_ p q))
-    (λ q. le-ltb (bitOr a b) (2 ^ 63) (omega (arith, ltb-false b (2 ^ 63) q)) ∙ sym (ap₂ _&&_ p q)))
-    (λ p. le-ltb (bitOr a b) (2 ^ 63) (omega (arith, ltb-false a (2 ^ 63) p)) ∙ sym (ap (λ (t : Bool). t && ltb b (2 ^ 63)) p))
-
-both : (x y : ℕ) → x < 2 ^ 63 → y < 2 ^ 63 → (ltb x (2 ^ 63) && ltb y (2 ^ 63)) ≡ true
-both x y h g = ap₂ _&&_ (lt-ltb x (2 ^ 63) h) (lt-ltb y (2 ^ 63) g)
-
-left : (x y : ℕ) → 2 ^ 63 ≤ x → (ltb x (2 ^ 63) && ltb y (2 ^ 63)) ≡ false
-left x y h = ap (λ (t : Bool). t && ltb y (2 ^ 63)) (le-ltb x (2 ^ 63) h)
-
-right : (x y : ℕ) → 2 ^ 63 ≤ y → (ltb x (2 ^ 63) && ltb y (2 ^ 63)) ≡ false
-right x y h = ap (λ (t : Bool). ltb x (2 ^ 63) && t) (le-ltb y (2 ^ 63) h) ∙ and-false (ltb x (2 ^ 63))
-  where
-    and-false : (b : Bool) → (b && false) ≡ false
-    and-false true = refl
-    and-false false = refl
+    both-ways (ltb (bitOr a b) (2 ^ 63)) (ltb a (2 ^ 63) && ltb b (2 ^ 63))
+    (λ e. let h = ltb-true (bitOr a b) (2 ^ 63) e in and-both (lt-ltb a (2 ^ 63) (omega (arith, or-le a b))) (lt-ltb b (2 ^ 63) (omega (arith, or-le a b))))
+    (λ e. let (p, q) = and-true (ltb a (2 ^ 63)) (ltb b (2 ^ 63)) e in
+    lt-ltb (bitOr a b) (2 ^ 63) (or-lt 63 a b (ltb-true a (2 ^ 63) p) (ltb-true b (2 ^ 63) q)))
 
 -- the two sums that wrap: the one is past the half below the range, the other above it
-pub apart-limit : (z : ℤ) → SFits w64 z → (x y : ℕ) → y < 2 ^ 64 → x ≡ (ofZ w64 z + filmOut) % 2 ^ 64 → (y + ofZ w64 z) % 2 ^ 64 ≡ filmOut
-    → ltb (bitOr x y) (2 ^ 63) ≡ within filmOut z
-unfolding within
-apart-limit (pos n) f x y h e g =
-    joined x y
-    ∙ by-test (leb n filmOut)
-    (λ t. let o = leb-true n filmOut t in both x y (omega linear) (omega linear) ∙ sym t)
-    (λ t. let o = leb-false n filmOut t in right x y (omega linear) ∙ sym t)
-apart-limit (negsuc n) f x y h e g =
-    joined x y
-    ∙ by-test (leb (suc n) filmOut)
-    (λ t. let o = leb-true (suc n) filmOut t in both x y (omega linear) (omega linear) ∙ sym t)
-    (λ t. let o = leb-false (suc n) filmOut t in left x y (omega linear) ∙ sym t)
+module _ {limit : ℕ} (m : limit ≤ costLimit) {x y : ℕ} (h : y < 2 ^ 64) where
+  sums-low : (z : ℤ) → SFits w64 z → x ≡ (ofZ w64 z + limit) % 2 ^ 64 → (y + ofZ w64 z) % 2 ^ 64 ≡ limit → natAbs z ≤ limit → (x < 2 ^ 63) × (y < 2 ^ 63)
+  sums-low (pos n) f e g k = (omega linear, omega linear)
+  sums-low (negsuc n) f e g k = (omega linear, omega linear)
+
+  sums-high : (z : ℤ) → SFits w64 z → x ≡ (ofZ w64 z + limit) % 2 ^ 64 → (y + ofZ w64 z) % 2 ^ 64 ≡ limit → x < 2 ^ 63 → y < 2 ^ 63 → natAbs z ≤ limit
+  sums-high (pos n) f e g j k = omega linear
+  sums-high (negsuc n) f e g j k = omega linear
+
+  pub apart-limit : (z : ℤ) → SFits w64 z → x ≡ (ofZ w64 z + limit) % 2 ^ 64 → (y + ofZ w64 z) % 2 ^ 64 ≡ limit → ltb (bitOr x y) (2 ^ 63) ≡ within limit z
+  apart-limit z f e g =
+      both-ways (ltb (bitOr x y) (2 ^ 63)) (within limit z)
+      (λ t. let j = ltb-true (bitOr x y) (2 ^ 63) t in le-within limit z (sums-high z f e g (omega (arith, or-le x y)) (omega (arith, or-le x y))))
+      (λ t. let (j, k) = sums-low z f e g (within-le limit z t) in lt-ltb (bitOr x y) (2 ^ 63) (or-lt 63 x y j k))
 
 -- ---- a loop that joins what each place gives
 
@@ -101,51 +95,42 @@ joining-more {t} {n} {i} {w} v j h e =
 pub joining-all : {t : ℕ → Bool} {n i w : ℕ} → Joining t n i w → n ≤ i → ltb w (2 ^ 63) ≡ below n t
 joining-all {t} {n} {i} {w} j h = let e : i ≡ n = omega arith in j .told ∙ ap (λ (k : ℕ). below k t) e
 
-pub below-every : {A : Type 0} (t : A → Bool) (l : List A) (d : A) → below (length l) (λ i. t (getD l i d)) ≡ every t l
-below-every t l d =
-    by-test (below (length l) (λ i. t (getD l i d)))
-    (λ e. e ∙ sym (every-below t l d (below-at (length l) (λ i. t (getD l i d)) e)))
-    (λ e. by-test (every t l)
-    (λ q. below-all (length l) (λ i. t (getD l i d)) (λ i h. every-at t l d i h q) ∙ sym q)
-    (λ q. e ∙ sym q))
+-- of costs that each receive something
+pub joining-shifted : (limit : ℕ) (f : ℕ → ℤ) (l : List ℤ) {i w : ℕ} → Joining (λ j. within limit (getD l j (pos 0) +ℤ f j)) (length l) i w → length l ≤ i
+    → ltb w (2 ^ 63) ≡ every (within limit) (shifted f l)
+joining-shifted limit f l j h = joining-all j h ∙ sym (every-made (within limit) (length l) (λ j. getD l j (pos 0) +ℤ f j))
 
 -- ---- the quick test: costs within half the limit
 
-pub half-way : (z : ℤ) → SFits w64 z → (x : ℕ) → x ≡ (ofZ w64 z + 2 ^ 39) % 2 ^ 64 → x < 2 ^ 40 → natAbs z ≤ 2 ^ 39
-half-way (pos n) f x e h = omega linear
-half-way (negsuc n) f x e h = omega linear
+pub half-way : (z : ℤ) → SFits w64 z → {half : ℕ} → half ≤ costLimit → (x : ℕ) → x ≡ (ofZ w64 z + half) % 2 ^ 64 → x < 2 * half → natAbs z ≤ half
+half-way (pos n) f m x e h = omega linear
+half-way (negsuc n) f m x e h = omega linear
 
-pub record Halving (l : List ℤ) (i w : ℕ) : Type 0 where
+pub record Halving (half : ℕ) (l : List ℤ) (i w : ℕ) : Type 0 where
   pub inside : i ≤ length l
-  pub told : w < 2 ^ 40 → (j : ℕ) → j < i → natAbs (getD l j (pos 0)) ≤ 2 ^ 39
+  pub told : w < 2 * half → (j : ℕ) → j < i → natAbs (getD l j (pos 0)) ≤ half
 
-pub halving-none : (l : List ℤ) → Halving l 0 0
-halving-none l = record { inside = omega arith; told = λ h j g. absurd (not-suc-le-zero g) }
+pub halving-none : (half : ℕ) (l : List ℤ) → Halving half l 0 0
+halving-none half l = record { inside = omega arith; told = λ h j g. absurd (not-suc-le-zero g) }
 
-pub halving-more : {l : List ℤ} {i w : ℕ} (v : ℕ) → Halving l i w → i < length l → (v < 2 ^ 40 → natAbs (getD l i (pos 0)) ≤ 2 ^ 39) → Halving l (i + 1) (bitOr w v)
-halving-more {l} {i} {w} v r h e =
-    let s = or-add-and w v in
-    let a = and-le-l w v in
-    let b = and-le-r w v in
+pub halving-more : {half : ℕ} {l : List ℤ} {i w : ℕ} (v : ℕ) → Halving half l i w → i < length l → (v < 2 * half → natAbs (getD l i (pos 0)) ≤ half)
+    → Halving half l (i + 1) (bitOr w v)
+halving-more {half} {l} {i} {w} v r h e =
     record {
       inside = omega arith;
-      told = λ g j k. by-test (eqb j i)
-          (λ t. let q : j ≡ i = eqb-true j i t in subst (λ (n : ℕ). natAbs (getD l n (pos 0)) ≤ 2 ^ 39) (sym q) (e (omega arith)))
-          (λ t. let d : j ≡ i → ⊥ = eqb-false j i t in r .told (omega arith) j (omega arith));
+      told = λ g. below-more (λ j. natAbs (getD l j (pos 0)) ≤ half) i (r .told (omega (arith, or-le w v))) (e (omega (arith, or-le w v)));
     }
 
-pub halving-all : {l : List ℤ} {i w : ℕ} → Halving l i w → length l ≤ i → ltb w (2 ^ 40) ≡ true → Within (2 ^ 39) l
-halving-all {l} {i} {w} r h t j =
-    by-test (ltb j (length l))
-    (λ o. let g : j < length l = ltb-true j (length l) o in r .told (ltb-true w (2 ^ 40) t) j (omega arith))
-    (λ o. subst (λ (z : ℤ). natAbs z ≤ 2 ^ 39) (sym (List·getD-eq-default l (pos 0) (ltb-false j (length l) o))) (omega arith))
+pub halving-all : {half : ℕ} {l : List ℤ} {i w : ℕ} → Halving half l i w → length l ≤ i → ltb w (2 * half) ≡ true → Within half l
+halving-all {half} {l} {i} {w} r h t = past l (λ j g. r .told (ltb-true w (2 * half) t) j (omega arith))
+  where
+    past : (l : List ℤ) → ((j : ℕ) → j < length l → natAbs (getD l j (pos 0)) ≤ half) → Within half l
+    past [] f i = omega arith
+    past (x ∷ l) f zero = f zero (omega arith)
+    past (x ∷ l) f (suc i) = past l (λ j g. f (suc j) (omega arith)) i
 
 -- two halves add up to no more than the limit
-pub halves-fit : (f : ℕ → ℤ) (l : List ℤ) → Within (2 ^ 39) l → ((k : ℕ) → natAbs (f k) ≤ 2 ^ 39) → every (within filmOut) (shifted f l) ≡ true
-unfolding within
-halves-fit f l h g =
-    every-tabulate (within filmOut) (length l) (λ i. getD l i (pos 0) +ℤ f i)
-    (λ i _. let x = getD l i (pos 0) in
-    let a = h i in
-    let b = g i in
-    le-leb (natAbs (x +ℤ f i)) filmOut (omega (linear, abs (x +ℤ f i), add x (f i), abs x, abs (f i))))
+pub halves-fit : {half limit : ℕ} → 2 * half ≤ limit → (f : ℕ → ℤ) (l : List ℤ) → Within half l → ((k : ℕ) → natAbs (f k) ≤ half) → every (within limit) (shifted f l) ≡ true
+halves-fit {half} {limit} m f l h g =
+    every-tabulate (within limit) (length l) (λ i. getD l i (pos 0) +ℤ f i)
+    (λ i _. le-within limit (getD l i (pos 0) +ℤ f i) (omega (arith, abs-add (getD l i (pos 0)) (f i), h i, g i)))

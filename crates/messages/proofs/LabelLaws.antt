@@ -15,6 +15,7 @@ use Rattle.integers.specs.Places.{range, select, tabulate}
 use Rattle.integers.proofs.Places.{by-test, if-true, if-false, length-tabulate, getD-tabulate}
 use Rattle.integers.proofs.Ranges.{range-add, select-append}
 use Rattle.integers.proofs.Least.{least-append, least-min}
+use Rattle.index.proofs.Lists.{append-map}
 use Rattle.instance.specs.Instance.{Instance}
 use Rattle.messages.specs.Bounds.{labelBelow, leastLabels}
 use Rattle.messages.proofs.FillLaws.{tabulate-same}
@@ -47,10 +48,6 @@ module _ (I : Instance) (labels : List ℤ) where
   pub leasts-at : (i l : ℕ) → l < 64 → getD (leastLabels I labels i) l (pos 0) ≡ labelBelow I labels i l
   unfolding leastLabels
   leasts-at i l h = getD-tabulate 64 (labelBelow I labels i) l (pos 0) h
-
-  append-map : (f : ℕ → ℤ) (k l : List ℕ) → map f (k ++ l) ≡ map f k ++ map f l
-  append-map f [] l = refl
-  append-map f (x ∷ k) l = ap (λ (t : List ℤ). f x ∷ t) (append-map f k l)
 
   -- one place more: the label there takes its cost in, the others are as they were
   below-more : (i l : ℕ) → labelBelow I labels (i + 1) l ≡ cond (eqb l (I .label i)) (minℤ (getD labels i (pos 0)) (labelBelow I labels i l)) (labelBelow I labels i l)

@@ -1,4 +1,4 @@
--- The least of a row as four running minima side by side find it, and one 1st of a distance.
+-- The least of a row as four running minima side by side find it.
 -- Assumes nothing.
 use mathlib.Core.Path.{_≡_, sym, ap, ap₂, _∙_}
 use mathlib.Core.List.{List, [], _∷_}
@@ -8,9 +8,6 @@ use native.Mathlib.Omega.{arith}
 use lib.ListN.{length, getD, drop}
 use lib.IntN.{ℤ, pos}
 use Rattle.integers.specs.Least.{minℤ, leastFrom, leastOf}
-use Rattle.integers.specs.Share.{share}
-use Rattle.integers.proofs.Parts.{linear}
-use Rattle.integers.proofs.Share.{share-parts}
 use Rattle.integers.proofs.Order.{le-refl, min-eq-left, min-comm}
 use Rattle.integers.proofs.Least.{min-left-comm, least-step, least-min}
 
@@ -72,7 +69,3 @@ pub least-whole : (l : List ℤ) (d : ℤ) → 0 < length l → leastFrom (getD 
 unfolding leastFrom leastOf
 least-whole [] d h = absurd (not-suc-le-zero h)
 least-whole (x ∷ l) d h = sym (least-min x x l) ∙ ap (λ (z : ℤ). leastFrom z l) (min-self x)
-
--- one 1st of a distance
-pub share-one : (d : ℤ) → share d 1 ≡ d
-share-one d = omega (linear, share-parts d 1)

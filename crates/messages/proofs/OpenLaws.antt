@@ -21,13 +21,13 @@ use Rattle.instance.proofs.LaidOut.{LaidOut}
 use Rattle.instance.proofs.Shown.{checks-numbered}
 use Rattle.rules.specs.Costs.{Buffers, opened}
 use Rattle.rules.specs.Calls.{lengthsOk, openRefusal, openOf}
-use Rattle.messages.specs.World.{opens}
+use Rattle.messages.specs.Lent.{opens}
 
 module _ (s : List ℕ) (b : Buffers) where
   abbrev I : Instance
   I = instanceOf s
 
-  by-checks : openRefusal s b ≡ cond (eqb (refusalOf s) 0) (cond (lengthsOk I b) 0 8) (refusalOf s)
+  pub by-checks : openRefusal s b ≡ cond (eqb (refusalOf s) 0) (cond (lengthsOk I b) 0 8) (refusalOf s)
   unfolding openRefusal refusalOf firstFailure
   by-checks = failure-append (checks s) ((lengthsOk I b, 8) ∷ []) (checks-numbered s)
 

@@ -11,12 +11,14 @@ use lib.Dec.{leb, ltb, eqb}
 use lib.IntN.{ℤ}
 use Rattle.integers.proofs.Places.{if-true, if-false, and-true}
 use Rattle.instance.specs.Instance.{Instance, first}
-use Rattle.instance.specs.Sheet.{instanceOf}
+use Rattle.instance.specs.Sheet.{instanceOf, refusalOf}
 use Rattle.rules.specs.Run.{legalShare, legalEdge, legalPosition}
-use Rattle.messages.specs.World.{Seen}
-use Rattle.messages.specs.LabelMessage.{labelMove, labelMoved, PlaceAsked}
+use Rattle.messages.specs.declared.view.View.{View}
+use Rattle.messages.specs.Lent.{NodeFits, EdgeFits}
+use Rattle.messages.specs.Seen.{Seen}
+use Rattle.messages.specs.LabelMessage.{labelMove, labelMoved, labelGiven, PlaceAsked}
 use Rattle.messages.specs.EdgeRecord.{edgeMove, edgeMoved, EdgeLegal}
-use Rattle.messages.specs.Records.{labelGiven, labelTaken, edgeTaken, EdgeFit}
+use Rattle.messages.specs.Records.{labelTaken, edgeTaken}
 
 -- ---- shares
 
@@ -100,42 +102,31 @@ module _ (I : Instance) (u k r : ℕ) where
 
 -- ---- taken, or refused
 
-module _ (I : Instance) (nodes edges : List ℤ) (turned : Bool) (u e r : ℕ) where
-  pub edge-taken : legalEdge I u e r ≡ true → edgeMoved I nodes edges turned u e r ≡ edgeTaken I nodes edges turned u e r
+module _ (I : Instance) (limit : ℕ) (nodes edges : List ℤ) (turned : Bool) (u e r : ℕ) where
+  pub edge-taken : legalEdge I u e r ≡ true → edgeMoved I nodes edges limit turned u e r ≡ edgeTaken I limit nodes edges turned u e r
   unfolding edgeTaken
-  edge-taken h = sym (if-true (edgeMoved I nodes edges turned u e r) (edgeMove 12 nodes edges) h)
+  edge-taken h = sym (if-true (edgeMoved I nodes edges limit turned u e r) (edgeMove 12 nodes edges) h)
 
-  pub edge-refused : legalEdge I u e r ≡ false → edgeMove 12 nodes edges ≡ edgeTaken I nodes edges turned u e r
+  pub edge-refused : legalEdge I u e r ≡ false → edgeMove 12 nodes edges ≡ edgeTaken I limit nodes edges turned u e r
   unfolding edgeTaken
-  edge-refused h = sym (if-false (edgeMoved I nodes edges turned u e r) (edgeMove 12 nodes edges) h)
+  edge-refused h = sym (if-false (edgeMoved I nodes edges limit turned u e r) (edgeMove 12 nodes edges) h)
 
-module _ (I : Instance) (nodes labels : List ℤ) (turned : Bool) (u k r : ℕ) where
-  pub label-taken : legalPosition I u k r ≡ true → labelMoved nodes labels (first I u + k) (labelGiven I nodes labels turned u k r) ≡ labelTaken I nodes labels turned u k r
+module _ (I : Instance) (limit : ℕ) (nodes labels : List ℤ) (turned : Bool) (u k r : ℕ) where
+  pub label-taken : legalPosition I u k r ≡ true → labelMoved limit nodes labels (first I u + k) (labelGiven I nodes labels turned u (first I u + k) r) ≡ labelTaken I limit nodes labels turned u k r
   unfolding labelTaken
-  label-taken h = sym (if-true (labelMoved nodes labels (first I u + k) (labelGiven I nodes labels turned u k r)) (labelMove 12 nodes labels) h)
+  label-taken h = sym (if-true (labelMoved limit nodes labels (first I u + k) (labelGiven I nodes labels turned u (first I u + k) r)) (labelMove 12 nodes labels) h)
 
-  pub label-refused : legalPosition I u k r ≡ false → labelMove 12 nodes labels ≡ labelTaken I nodes labels turned u k r
+  pub label-refused : legalPosition I u k r ≡ false → labelMove 12 nodes labels ≡ labelTaken I limit nodes labels turned u k r
   unfolding labelTaken
-  label-refused h = sym (if-false (labelMoved nodes labels (first I u + k) (labelGiven I nodes labels turned u k r)) (labelMove 12 nodes labels) h)
+  label-refused h = sym (if-false (labelMoved limit nodes labels (first I u + k) (labelGiven I nodes labels turned u (first I u + k) r)) (labelMove 12 nodes labels) h)
 
 -- what the moves ask
-module _ {s : List ℕ} {n ends : ℕ} {starts tables : List ℕ} (v : Seen s n ends starts tables) where
-  pub edge-legal : (nodes edges : List ℤ) (u e r : ℕ) → EdgeFit s nodes edges → legalEdge (instanceOf s) u e r ≡ true → EdgeLegal s n ends starts tables nodes edges u e r
-  edge-legal nodes edges u e r f h =
-      let (a, b, c, d) = legal-edge-is (instanceOf s) u e r h in
-      record {
-        seen = v;
-        nodeLength = f .nodeLength;
-        edgeLength = f .edgeLength;
-        nodeRange = f .nodeRange;
-        edgeRange = f .edgeRange;
-        node = omega (arith, v .known .nodes);
-        edge = c;
-        touches = d;
-        shares = a;
-      }
+pub edge-legal : {s : List ℕ} {v : View} {starts tables : List ℕ} → Seen s v starts tables → {nodes edges : List ℤ} → NodeFits s nodes → EdgeFits s edges → (u e r : ℕ) → legalEdge (instanceOf s) u e r ≡ true → EdgeLegal s v starts tables nodes edges u e r
+edge-legal {s} w f g u e r h =
+    let (a, b, c, d) = legal-edge-is (instanceOf s) u e r h in
+    record { seen = w; nodeCosts = f; edgeCosts = g; node = b; edge = c; touches = d; shares = a }
 
-  pub place-asked : (at u k r : ℕ) → at ≡ first (instanceOf s) u → legalPosition (instanceOf s) u k r ≡ true → PlaceAsked s n ends at u k r
-  place-asked at u k r e h =
-      let (a, b, c) = legal-position-is (instanceOf s) u k r h in
-      record { known = v .known; node = omega (arith, v .known .nodes); begins = e; position = c; some = a }
+pub place-asked : (s : List ℕ) → refusalOf s ≡ 0 → (at u k r : ℕ) → at ≡ first (instanceOf s) u → legalPosition (instanceOf s) u k r ≡ true → PlaceAsked s at u k r
+place-asked s w at u k r e h =
+    let (a, b, c) = legal-position-is (instanceOf s) u k r h in
+    record { readable = w; node = b; begins = e; position = c; some = a }

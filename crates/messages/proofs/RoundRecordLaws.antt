@@ -13,12 +13,11 @@ use lib.IntN.{ℤ}
 use Rattle.integers.specs.Places.{tabulate}
 use Rattle.integers.proofs.Places.{if-true, if-false, length-tabulate, getD-tabulate}
 use Rattle.instance.specs.Instance.{Instance}
-use Rattle.rules.specs.Calls.{filmOut}
 use Rattle.rules.specs.Costs.{Costs, Buffers, Labelling, costsOf}
 use Rattle.rules.specs.Rounding.{round}
 use Rattle.rules.specs.Run.{refused, rounding, rounded, effect}
 use Rattle.rules.proofs.Rounding.{round-matching}
-use Rattle.messages.specs.World.{lent}
+use Rattle.messages.specs.Lent.{lent}
 use Rattle.messages.specs.Step.{Settled, settle, settled}
 use Rattle.messages.specs.Incumbent.{adoptedOf}
 use Rattle.messages.specs.Rounded.{costsBy, roundedBy}
@@ -87,25 +86,25 @@ unfolding roundTaken
 taken-refused I nodes edges old u k r e = sym (if-false (roundLeft I (round I (costsBy nodes edges)) old) (roundMove old 0 12) e)
 
 -- what a record of kind 5 leaves, with the lent costs as they were
-abbrev settledBy : Buffers → RoundMove → Settled
-settledBy b m = settle (lent (b .nodes) (b .labels) (b .edges) (m .incumbent)) (m .stuck) (m .refusal)
+abbrev roundSettled : Buffers → RoundMove → Settled
+roundSettled b m = settle (lent (b .nodes) (b .labels) (b .edges) (m .incumbent)) (m .stuck) (m .refusal)
 
 -- a rounding's outcome by the rules
-left-settled : (I : Instance) (b : Buffers) (o : Option (List ℕ)) → settledBy b (roundLeft I o (b .incumbent)) ≡ settled b (rounded I b o)
+left-settled : (I : Instance) (b : Buffers) (o : Option (List ℕ)) → roundSettled b (roundLeft I o (b .incumbent)) ≡ settled b (rounded I b o)
 unfolding roundLeft rounded
 left-settled I b none = refl
 left-settled I b (some x) = ap (λ (z : Buffers). settle z 0 0) (sym (adopt-is I x b))
 
-taken-settled : (I : Instance) (b : Buffers) (u k r : ℕ) → settledBy b (roundTaken I (b .nodes) (b .edges) (b .incumbent) u k r) ≡ settled b (effect I filmOut b rounding u k r)
+taken-settled : (I : Instance) (limit : ℕ) (b : Buffers) (u k r : ℕ) → roundSettled b (roundTaken I (b .nodes) (b .edges) (b .incumbent) u k r) ≡ settled b (effect I limit b rounding u k r)
 unfolding roundTaken effect
-taken-settled I b u k r = go (eqb u 0 && eqb k 0 && eqb r 0)
+taken-settled I limit b u k r = go (eqb u 0 && eqb k 0 && eqb r 0)
   where
-    go : (t : Bool) → settledBy b (cond t (roundLeft I (round I (costsBy (b .nodes) (b .edges))) (b .incumbent)) (roundMove (b .incumbent) 0 12))
+    go : (t : Bool) → roundSettled b (cond t (roundLeft I (round I (costsBy (b .nodes) (b .edges))) (b .incumbent)) (roundMove (b .incumbent) 0 12))
         ≡ settled b (cond t (rounded I b (round I (costsOf b))) (refused 12))
     go true = left-settled I b (round I (costsBy (b .nodes) (b .edges))) ∙ ap (λ (o : Option (List ℕ)). settled b (rounded I b o)) (sym (round-costs I b))
     go false = refl
 
 -- what the code leaves and answers is the record's outcome by the rules
-pub round-settled : (I : Instance) (b : Buffers) (u k r : ℕ) {m : RoundMove} → m ≡ roundTaken I (b .nodes) (b .edges) (b .incumbent) u k r
-    → settle (lent (b .nodes) (b .labels) (b .edges) (m .incumbent)) (m .stuck) (m .refusal) ≡ settled b (effect I filmOut b rounding u k r)
-round-settled I b u k r e = ap (settledBy b) e ∙ taken-settled I b u k r
+pub round-settled : (I : Instance) (limit : ℕ) (b : Buffers) (u k r : ℕ) {m : RoundMove} → m ≡ roundTaken I (b .nodes) (b .edges) (b .incumbent) u k r
+    → settle (lent (b .nodes) (b .labels) (b .edges) (m .incumbent)) (m .stuck) (m .refusal) ≡ settled b (effect I limit b rounding u k r)
+round-settled I limit b u k r e = ap (roundSettled b) e ∙ taken-settled I limit b u k r

@@ -3,6 +3,7 @@
 use mathlib.Core.Path.{_≡_, refl, sym, ap, ap₂, _∙_}
 use mathlib.Core.List.{List}
 use Prim.Native.Nat.{ℕ, _+_, _-_, _*_, _≤_, _<_}
+use native.Mathlib.Nat.{mul-le-mul, add-mul}
 use native.Mathlib.Numerals.{add-one}
 use native.Mathlib.Omega.{arith}
 use lib.ListN.{length}
@@ -17,47 +18,44 @@ use Rattle.integers.proofs.Parts.{linear, add, abs}
 use Rattle.integers.proofs.Sum.{abs-add}
 use Rattle.integers.proofs.Rows.{length-part, within-part}
 use Rattle.integers.proofs.Totals.{offset-le, offset-more, offset-none}
-use Rattle.rules.specs.Calls.{filmOut}
+use Rattle.rules.specs.Calls.{costLimit}
+use Rattle.messages.specs.Bounds.{partLeast}
 use Rattle.messages.proofs.RowLaws.{least-of-within}
 
--- ---- a sum of f over the places below u, each term within the limit
+-- ---- a sum of f over the places below u, each term within k
 
-pub record Added (f : ℕ → ℤ) (sum : ℤ) (u : ℕ) : Type 0 where
+pub record Added (k : ℕ) (f : ℕ → ℤ) (sum : ℤ) (u : ℕ) : Type 0 where
   pub is : sum ≡ total u f
-  pub small : natAbs sum ≤ u * filmOut
+  pub small : natAbs sum ≤ u * k
 
-pub added-none : (f : ℕ → ℤ) → Added f (pos 0) 0
+pub added-none : (k : ℕ) (f : ℕ → ℤ) → Added k f (pos 0) 0
 unfolding total
-added-none f = record { is = refl; small = omega arith }
+added-none k f = record { is = refl; small = omega arith }
 
-module _ {f : ℕ → ℤ} {sum : ℤ} {u : ℕ} (a : Added f sum u) (x : ℤ) (h : natAbs x ≤ filmOut) where
-  pub added-fits : u ≤ 1_024 → SFits w64 (sum +ℤ x)
-  added-fits g = omega (linear, add sum x, abs sum, abs x, a .small)
+module _ {k : ℕ} {f : ℕ → ℤ} {sum : ℤ} {u : ℕ} (a : Added k f sum u) (x : ℤ) (h : natAbs x ≤ k) where
+  pub added-fits : k ≤ costLimit → u ≤ 1_024 → SFits w64 (sum +ℤ x)
+  added-fits l g = omega (linear, add sum x, abs sum, abs x, a .small, mul-le-mul {n₁ = u} {m₁ = k} {n₂ = 1_024} {m₂ = costLimit} g l)
 
-  pub added-more : x ≡ f u → Added f (sum +ℤ x) (u + 1)
+  pub added-more : x ≡ f u → Added k f (sum +ℤ x) (u + 1)
   unfolding total
-  added-more e = record { is = rw (add-one u) (ap₂ _+ℤ_ (a .is) e); small = omega (arith, abs-add sum x, a .small) }
+  added-more e = record { is = rw (add-one u) (ap₂ _+ℤ_ (a .is) e); small = omega (arith, abs-add sum x, a .small, add-mul u 1 k) }
 
 -- ---- the leasts of the parts of one list, of the sizes z
-
--- the least of the part u
-abbrev pub partLeast : (ℕ → ℕ) → List ℤ → ℕ → ℤ
-partLeast z l u = leastOf (part l (offset z u) (z u))
 
 -- parts that fill the list, each with some place
 pub record Parts (z : ℕ → ℕ) (l : List ℤ) (count : ℕ) : Type 0 where
   pub long : length l ≡ offset z count
   pub some : (u : ℕ) → u < count → 1 ≤ z u
-  pub within : Within filmOut l
+  pub within : Within costLimit l
 
 -- after u parts, the next begins at `at`
 pub record Summed (z : ℕ → ℕ) (l : List ℤ) (count : ℕ) (sum : ℤ) (at u : ℕ) : Type 0 where
   pub upto : u ≤ count
   pub place : at ≡ offset z u
-  pub added : Added (partLeast z l) sum u
+  pub added : Added costLimit (partLeast z l) sum u
 
 pub summed-none : (z : ℕ → ℕ) (l : List ℤ) (count : ℕ) → Summed z l count (pos 0) 0 0
-summed-none z l count = record { upto = omega arith; place = sym (offset-none z); added = added-none (partLeast z l) }
+summed-none z l count = record { upto = omega arith; place = sym (offset-none z); added = added-none costLimit (partLeast z l) }
 
 module _ {z : ℕ → ℕ} {l : List ℤ} {count : ℕ} (p : Parts z l count) {sum : ℤ} {at u : ℕ} (s : Summed z l count sum at u) (h : u < count) (size to : ℕ) (e : size ≡ z u) (t : to ≡ at + size) where
   pub part-inside : to ≤ length l
@@ -74,11 +72,11 @@ module _ {z : ℕ → ℕ} {l : List ℤ} {count : ℕ} (p : Parts z l count) {s
       let d : to - at ≡ z u = omega arith in
       ap₂ (λ (a n : ℕ). leastOf (part l a n)) (s .place) d
 
-  least-small : natAbs (leastOf (part l at (to - at))) ≤ filmOut
-  least-small = least-of-within filmOut (part l at (to - at)) (within-part filmOut at (to - at) l (p .within))
+  least-small : natAbs (leastOf (part l at (to - at))) ≤ costLimit
+  least-small = least-of-within costLimit (part l at (to - at)) (within-part costLimit at (to - at) l (p .within))
 
   pub summed-fits : count ≤ 1_024 → SFits w64 (sum +ℤ leastOf (part l at (to - at)))
-  summed-fits g = added-fits (s .added) (leastOf (part l at (to - at))) least-small (omega arith)
+  summed-fits g = added-fits (s .added) (leastOf (part l at (to - at))) least-small (omega arith) (omega arith)
 
   pub summed-more : Summed z l count (sum +ℤ leastOf (part l at (to - at))) to (u + 1)
   summed-more = record {
@@ -87,5 +85,6 @@ module _ {z : ℕ → ℕ} {l : List ℤ} {count : ℕ} (p : Parts z l count) {s
     added = added-more (s .added) (leastOf (part l at (to - at))) least-small least-is;
   }
 
-pub summed-all : {z : ℕ → ℕ} {l : List ℤ} {count : ℕ} {sum : ℤ} {at u : ℕ} → Summed z l count sum at u → count ≤ u → sum ≡ total count (partLeast z l)
-summed-all {z} {l} {count} {sum} {at} {u} s h = let e : u ≡ count = omega (arith, s .upto) in s .added .is ∙ ap (λ (n : ℕ). total n (partLeast z l)) e
+-- all of them
+pub added-all : {k : ℕ} {f : ℕ → ℤ} {sum : ℤ} {u count : ℕ} → Added k f sum u → u ≤ count → count ≤ u → (sum ≡ total count f) × (natAbs sum ≤ count * k)
+added-all {k} {f} {sum} {u} {count} a h g = let e : u ≡ count = omega arith in (a .is ∙ ap (λ (n : ℕ). total n f) e, rw (sym e) (a .small))

@@ -10,23 +10,21 @@ use borrow.Author.Tests.{eq-eqb, eqb-true}
 use denote.Triple.Clauses.{Ended, AtExit, Lasts, atExit}
 use denote.Ref.{RefT, now}
 use lib.Dec.{eqb}
-use Rattle.integers.specs.Checks.{firstFailure}
+use lib.IntN.{ℤ}
 use Rattle.integers.proofs.Places.{by-test, if-true, if-false, and-both}
-use Rattle.integers.proofs.Checks.{failure-append}
-use Rattle.instance.specs.Sheet.{instanceOf, checks, refusalOf}
-use Rattle.instance.proofs.Shown.{checks-numbered}
+use Rattle.instance.specs.Sheet.{instanceOf, refusalOf}
 use Rattle.rules.specs.Costs.{Buffers, opened}
 use Rattle.rules.specs.Run.{Ran}
 use Rattle.rules.specs.Calls as calls
-use Rattle.rules.specs.Calls.{Opened, lengthsOk, openRefusal, openOf, runOf, reportOf, filmOut, Call, run, report, opening, ran, reported, Point, next, rules, points}
+use Rattle.rules.specs.Calls.{Opened, lengthsOk, openRefusal, openOf, runOf, reportOf, costLimit, Call, run, report, opening, ran, reported, Point, next, rules, points}
 use Rattle.rules.specs.Demand.{Holds}
 use Rattle.rules.proofs.Calls.{Under, sound, rules-hold}
 use Rattle.messages.specs.declared.answers.Answer.{Answer}
 use Rattle.messages.specs.declared.answers.Report.{Report}
 use Rattle.messages.specs.declared.answers.Report.the-variants.{Refused, Bound, Kept}
-use Rattle.messages.specs.World.{lent, opens}
+use Rattle.messages.specs.Lent.{lent, opens}
 use Rattle.messages.specs.Answers.{reportedAs, ranAs}
-use Rattle.messages.proofs.OpenLaws.{open-fills}
+use Rattle.messages.proofs.OpenLaws.{by-checks, open-fills}
 use Rattle.messages.proofs.opening.open as Open
 use Rattle.messages.proofs.opening.open.Reads as OpenReads
 use Rattle.messages.proofs.list.run as Run
@@ -36,7 +34,8 @@ use Rattle.messages.proofs.reporting.report.Reads as ReportingReads
 
 -- ---- a call that a function's postcondition allows
 
--- A call that a postcondition Q allows: lifetimes, arguments, an answer, and the last values of what was lent to write.
+-- A call that a postcondition Q allows: lifetimes, arguments, an answer, and the last values of what was lent to write. A real call is one: the function's
+-- `statement` (proved, in `Whole`) says that whatever is given it ends with such an answer and such last values, of which Q holds.
 pub record Made (T : Ended) (Q : (κs : Lfts (T .signature .lifetimes)) → ArgsD (T .signature) κs → ResD (T .signature) κs → AtExit T κs → Type 0) : Type 0 where
   pub κs : Lfts (T .signature .lifetimes)
   pub args : ArgsD (T .signature) κs
@@ -44,55 +43,54 @@ pub record Made (T : Ended) (Q : (κs : Lfts (T .signature .lifetimes)) → Args
   pub lasts : Lasts T κs args
   pub promise : Q κs args answer (atExit T κs args lasts)
 
--- a call of `open` that its generated postcondition allows
-abbrev pub OpenMade : Type 0
-OpenMade = Made Open.ended OpenReads.Post
+-- the four buffers, as references to them stand one after another
+abbrev four : {A : Type 0} → (RefT (List ℤ) × (RefT (List ℤ) × (RefT (List ℤ) × (RefT (List ℕ) × A)))) → Buffers
+four (nodes, (labels, (edges, (incumbent, rest)))) = lent (now nodes) (now labels) (now edges) (now incumbent)
 
--- a call of `run` that its generated postcondition allows
-abbrev pub RunMade : Type 0
-RunMade = Made Run.ended RunReads.Post
+-- what is lent to a call and what it leaves: behind the sheet, and for a run behind the records too
+module _ (c : Made Open.ended OpenReads.Post) where
+  abbrev openLent : Buffers
+  openLent = four (c .args .1)
 
--- a call of `report` that its generated postcondition allows
-abbrev pub ReportMade : Type 0
-ReportMade = Made Reporting.ended ReportingReads.Post
+  abbrev openLeft : Buffers
+  openLeft = four (atExit Open.ended (c .κs) (c .args) (c .lasts) .1)
+
+module _ (c : Made Run.ended RunReads.Post) where
+  abbrev runLent : Buffers
+  runLent = four (c .args .1 .1)
+
+  abbrev runLeft : Buffers
+  runLeft = four (atExit Run.ended (c .κs) (c .args) (c .lasts) .1 .1)
+
+module _ (c : Made Reporting.ended ReportingReads.Post) where
+  abbrev reportLent : Buffers
+  reportLent = four (c .args .1)
+
+  abbrev reportLeft : Buffers
+  reportLeft = four (atExit Reporting.ended (c .κs) (c .args) (c .lasts) .1)
 
 -- `Opens s m r n`: lent the sheet s and the buffers m, an opening answered r and left the buffers n
 pub data Opens : List ℕ → Buffers → ℕ → Buffers → Type 0 where
-  opened-by : (c : OpenMade)
-      → Opens (now (c .args .0))
-      (lent (now (c .args .1 .0)) (now (c .args .1 .1 .0)) (now (c .args .1 .1 .1 .0)) (now (c .args .1 .1 .1 .1 .0)))
-      (c .answer)
-      (lent (now (atExit Open.ended (c .κs) (c .args) (c .lasts) .1 .0)) (now (atExit Open.ended (c .κs) (c .args) (c .lasts) .1 .1 .0))
-      (now (atExit Open.ended (c .κs) (c .args) (c .lasts) .1 .1 .1 .0)) (now (atExit Open.ended (c .κs) (c .args) (c .lasts) .1 .1 .1 .1 .0)))
+  opened-by : (c : Made Open.ended OpenReads.Post) → Opens (now (c .args .0)) (openLent c) (c .answer) (openLeft c)
 
 -- `Runs s l m a n`: lent the sheet s, the list of records l and the buffers m, a run answered a and left the buffers n
 pub data Runs : List ℕ → List ℕ → Buffers → Answer → Buffers → Type 0 where
-  ran-by : (c : RunMade)
-      → Runs (now (c .args .0)) (now (c .args .1 .0))
-      (lent (now (c .args .1 .1 .0)) (now (c .args .1 .1 .1 .0)) (now (c .args .1 .1 .1 .1 .0)) (now (c .args .1 .1 .1 .1 .1 .0)))
-      (c .answer)
-      (lent (now (atExit Run.ended (c .κs) (c .args) (c .lasts) .1 .1 .0)) (now (atExit Run.ended (c .κs) (c .args) (c .lasts) .1 .1 .1 .0))
-      (now (atExit Run.ended (c .κs) (c .args) (c .lasts) .1 .1 .1 .1 .0)) (now (atExit Run.ended (c .κs) (c .args) (c .lasts) .1 .1 .1 .1 .1 .0)))
+  ran-by : (c : Made Run.ended RunReads.Post) → Runs (now (c .args .0)) (now (c .args .1 .0)) (runLent c) (c .answer) (runLeft c)
 
 -- `Reports s m a n`: lent the sheet s and the buffers m, a report answered a and left the buffers n
 pub data Reports : List ℕ → Buffers → Report → Buffers → Type 0 where
-  reported-by : (c : ReportMade)
-      → Reports (now (c .args .0))
-      (lent (now (c .args .1 .0)) (now (c .args .1 .1 .0)) (now (c .args .1 .1 .1 .0)) (now (c .args .1 .1 .1 .1 .0)))
-      (c .answer)
-      (lent (now (atExit Reporting.ended (c .κs) (c .args) (c .lasts) .1 .0)) (now (atExit Reporting.ended (c .κs) (c .args) (c .lasts) .1 .1 .0))
-      (now (atExit Reporting.ended (c .κs) (c .args) (c .lasts) .1 .1 .1 .0)) (now (atExit Reporting.ended (c .κs) (c .args) (c .lasts) .1 .1 .1 .1 .0)))
+  reported-by : (c : Made Reporting.ended ReportingReads.Post) → Reports (now (c .args .0)) (reportLent c) (c .answer) (reportLeft c)
 
 -- an opening answers and leaves what the rules say
 open-ruled : {s : List ℕ} {m n : Buffers} {r : ℕ} → Opens s m r n → opens n r ≡ openOf s m
 open-ruled (opened-by c) = c .promise
 
 -- a run answers and leaves what the rules say
-run-ruled : {s l : List ℕ} {m n : Buffers} {a : Answer} → Runs s l m a n → ranAs n a ≡ runOf s filmOut m l
+run-ruled : {s l : List ℕ} {m n : Buffers} {a : Answer} → Runs s l m a n → ranAs n a ≡ runOf s costLimit m l
 run-ruled (ran-by c) = c .promise
 
 -- a report answers what the rules say
-report-ruled : {s : List ℕ} {m n : Buffers} {a : Report} → Reports s m a n → reportedAs a ≡ reportOf s filmOut m
+report-ruled : {s : List ℕ} {m n : Buffers} {a : Report} → Reports s m a n → reportedAs a ≡ reportOf s costLimit m
 report-ruled (reported-by c) = c .promise
 
 -- a report leaves the buffers as they were: what is lent to read alone stays
@@ -109,20 +107,15 @@ leave b a = record { buffers = b; answer = a }
 pub data Trace (s : List ℕ) : List Call → List Point → Type 0 where
   start : {m n : Buffers} → Opens s m 0 n → Trace s [] (leave n opening ∷ [])
   then-run : {cs : List Call} {p : Point} {ps : List Point} {l : List ℕ} {a : Answer} {n : Buffers}
-      → Trace s cs (p ∷ ps) → Runs s l (p .buffers) a n → Trace s (run filmOut l ∷ cs) (leave n (ran (a .done) (a .stuck) (a .refusal)) ∷ p ∷ ps)
+      → Trace s cs (p ∷ ps) → Runs s l (p .buffers) a n → Trace s (run costLimit l ∷ cs) (leave n (ran (a .done) (a .stuck) (a .refusal)) ∷ p ∷ ps)
   then-report : {cs : List Call} {p : Point} {ps : List Point} {a : Report} {n : Buffers}
-      → Trace s cs (p ∷ ps) → Reports s (p .buffers) a n → Trace s (report filmOut ∷ cs) (leave n (reported (reportedAs a)) ∷ p ∷ ps)
+      → Trace s cs (p ∷ ps) → Reports s (p .buffers) a n → Trace s (report costLimit ∷ cs) (leave n (reported (reportedAs a)) ∷ p ∷ ps)
 
 -- ---- what an opening that was not refused says of the sheet, and what it leaves
 
 -- where the first failure of more checks is none, that of the first ones is none
 first-none : (k x : ℕ) → cond (eqb k 0) x k ≡ 0 → k ≡ 0
 first-none k x e = by-test (eqb k 0) (λ t. eqb-true k 0 t) (λ t. sym (if-false x k t) ∙ e)
-
--- an opening's refusal is the sheet's, or else 8 or none
-refused-by : (s : List ℕ) (b : Buffers) → openRefusal s b ≡ cond (eqb (refusalOf s) 0) (cond (lengthsOk (instanceOf s) b) 0 8) (refusalOf s)
-unfolding openRefusal refusalOf firstFailure
-refused-by s b = failure-append (checks s) ((lengthsOk (instanceOf s) b, 8) ∷ []) (checks-numbered s)
 
 -- it had no refusal
 unrefused : (s : List ℕ) (m n : Buffers) → opens n 0 ≡ openOf s m → openRefusal s m ≡ 0
@@ -131,7 +124,7 @@ unrefused s m n e = sym (ap (λ (x : Opened). x .refusal) e)
 
 -- its sheet is readable
 open-readable : (s : List ℕ) (m n : Buffers) → opens n 0 ≡ openOf s m → refusalOf s ≡ 0
-open-readable s m n e = first-none (refusalOf s) (cond (lengthsOk (instanceOf s) m) 0 8) (sym (refused-by s m) ∙ unrefused s m n e)
+open-readable s m n e = first-none (refusalOf s) (cond (lengthsOk (instanceOf s) m) 0 8) (sym (by-checks s m) ∙ unrefused s m n e)
 
 -- it leaves what the rules start from
 open-leaves : (s : List ℕ) (m n : Buffers) → opens n 0 ≡ openOf s m → n ≡ opened (instanceOf s)
@@ -158,17 +151,17 @@ ranTo q = leave (q .buffers) (ran (q .finished) (q .stuck) (q .refusal))
 
 -- a run as made is the run of the rules
 run-next : {s l : List ℕ} {n : Buffers} {a : Answer} (p q : Point) → Runs s l (p .buffers) a n → p ≡ q
-    → leave n (ran (a .done) (a .stuck) (a .refusal)) ≡ next s (run filmOut l) (q .buffers)
+    → leave n (ran (a .done) (a .stuck) (a .refusal)) ≡ next s (run costLimit l) (q .buffers)
 unfolding next
-run-next {s} {l} p q c e = ap ranTo (run-ruled c ∙ ap (λ (x : Point). runOf s filmOut (x .buffers) l) e)
+run-next {s} {l} p q c e = ap ranTo (run-ruled c ∙ ap (λ (x : Point). runOf s costLimit (x .buffers) l) e)
 
 -- a report as made is the report of the rules
 report-next : {s : List ℕ} {n : Buffers} {a : Report} (p q : Point) → Reports s (p .buffers) a n → p ≡ q
-    → leave n (reported (reportedAs a)) ≡ next s (report filmOut) (q .buffers)
+    → leave n (reported (reportedAs a)) ≡ next s (report costLimit) (q .buffers)
 unfolding next
 report-next {s} p q c e =
     ap₂ (λ (b : Buffers) (r : calls.Report). leave b (reported r)) (report-keeps c ∙ ap (λ (x : Point). x .buffers) e)
-    (report-ruled c ∙ ap (λ (x : Point). reportOf s filmOut (x .buffers)) e)
+    (report-ruled c ∙ ap (λ (x : Point). reportOf s costLimit (x .buffers)) e)
 
 -- every trace has the points of the rules
 pub as-ruled : {s : List ℕ} {cs : List Call} {ps : List Point} → Trace s cs ps → ps ≡ points s cs
@@ -209,7 +202,7 @@ abbrev answerOf : Ran → Answer
 answerOf q = record { done = q .finished; stuck = q .stuck; refusal = q .refusal }
 
 -- a run that leaves and answers q
-some-run : (s l : List ℕ) (b : Buffers) (q : Ran) → q ≡ runOf s filmOut b l → Runs s l b (answerOf q) (q .buffers)
+some-run : (s l : List ℕ) (b : Buffers) (q : Ran) → q ≡ runOf s costLimit b l → Runs s l b (answerOf q) (q .buffers)
 some-run s l b q e = ran-by (record {
   κs = ([], ([], ([], ([], ([], ([], tt))))));
   args = (ref s, (ref l, (ref (b .nodes), (ref (b .labels), (ref (b .edges), (ref (b .incumbent), tt))))));
@@ -231,7 +224,7 @@ report-same (calls.bound z) = refl
 report-same (calls.kept z p g) = refl
 
 -- a report that answers a
-some-report : (s : List ℕ) (b : Buffers) (a : Report) → reportedAs a ≡ reportOf s filmOut b → Reports s b a b
+some-report : (s : List ℕ) (b : Buffers) (a : Report) → reportedAs a ≡ reportOf s costLimit b → Reports s b a b
 some-report s b a e = reported-by (record {
   κs = ([], ([], ([], ([], ([], tt)))));
   args = (ref s, (ref (b .nodes), (ref (b .labels), (ref (b .edges), (ref (b .incumbent), tt)))));
@@ -241,27 +234,27 @@ some-report s b a e = reported-by (record {
 })
 
 -- one run more
-more-run : (s l : List ℕ) (cs : List Call) → Trace s cs (points s cs) → Trace s (run filmOut l ∷ cs) (points s (run filmOut l ∷ cs))
+more-run : (s l : List ℕ) (cs : List Call) → Trace s cs (points s cs) → Trace s (run costLimit l ∷ cs) (points s (run costLimit l ∷ cs))
 unfolding points rules next
-more-run s l [] t = then-run t (some-run s l _ (runOf s filmOut (rules s [] .buffers) l) refl)
-more-run s l (c ∷ cs) t = then-run t (some-run s l _ (runOf s filmOut (rules s (c ∷ cs) .buffers) l) refl)
+more-run s l [] t = then-run t (some-run s l _ (runOf s costLimit (rules s [] .buffers) l) refl)
+more-run s l (c ∷ cs) t = then-run t (some-run s l _ (runOf s costLimit (rules s (c ∷ cs) .buffers) l) refl)
 
 -- one report more, at a point p
-report-at : (s : List ℕ) (cs : List Call) (p : Point) (ps : List Point) → Trace s cs (p ∷ ps) → Trace s (report filmOut ∷ cs) (next s (report filmOut) (p .buffers) ∷ p ∷ ps)
+report-at : (s : List ℕ) (cs : List Call) (p : Point) (ps : List Point) → Trace s cs (p ∷ ps) → Trace s (report costLimit ∷ cs) (next s (report costLimit) (p .buffers) ∷ p ∷ ps)
 unfolding next
 report-at s cs p ps t =
-    let r = reportOf s filmOut (p .buffers) in
-    subst (λ (x : calls.Report). Trace s (report filmOut ∷ cs) (leave (p .buffers) (reported x) ∷ p ∷ ps)) (report-same r)
+    let r = reportOf s costLimit (p .buffers) in
+    subst (λ (x : calls.Report). Trace s (report costLimit ∷ cs) (leave (p .buffers) (reported x) ∷ p ∷ ps)) (report-same r)
     (then-report t (some-report s (p .buffers) (reportAs r) (report-same r)))
 
 -- one report more
-more-report : (s : List ℕ) (cs : List Call) → Trace s cs (points s cs) → Trace s (report filmOut ∷ cs) (points s (report filmOut ∷ cs))
+more-report : (s : List ℕ) (cs : List Call) → Trace s cs (points s cs) → Trace s (report costLimit ∷ cs) (points s (report costLimit ∷ cs))
 unfolding points rules
 more-report s [] t = report-at s [] (rules s []) [] t
 more-report s (c ∷ cs) t = report-at s (c ∷ cs) (rules s (c ∷ cs)) (points s cs) t
 
 -- on a readable sheet every list of calls with this limit has a trace, with the points of the rules
-pub every : (s : List ℕ) → refusalOf s ≡ 0 → (cs : List Call) → Under filmOut cs → Trace s cs (points s cs)
+pub every : (s : List ℕ) → refusalOf s ≡ 0 → (cs : List Call) → Under costLimit cs → Trace s cs (points s cs)
 unfolding points rules
 every s h [] u = start (some-open s (opened (instanceOf s)) (opened (instanceOf s)) (open-fills s (opened (instanceOf s)) h (lengths-opened s h)))
 every s h (run k l ∷ cs) (e, u) = subst (λ (k : ℕ). Trace s (run k l ∷ cs) (points s (run k l ∷ cs))) (sym e) (more-run s l cs (every s h cs u))

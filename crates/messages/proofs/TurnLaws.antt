@@ -20,23 +20,24 @@ use Rattle.instance.proofs.Readable as sheet
 use Rattle.instance.proofs.LaidOut.{row-inside}
 use Rattle.instance.specs.Readable.{Proper}
 use Rattle.rules.specs.Costs.{Buffers, costsOf, inRange, Sized, Matching}
-use Rattle.rules.specs.Messages.{nodeToEdge, edgeToNode, toLabel, deltas, shift}
+use Rattle.rules.specs.Messages.{nodeToEdge, edgeToNode, nodeToLabel, labelToNode, toLabel, deltas, shift}
 use mathlib.Core.Option.{Option, none, some}
 use Rattle.rules.specs.Rounding.{round}
 use Rattle.rules.specs.Run.{Kind, message, rounding, unknown, kindOf, Outcome, refused, done, rounded, checked, effect, legalMessage, legalEdge, legalPosition}
-use Rattle.rules.specs.Calls.{filmOut, lengthsOk, incumbentOk, isMatching}
+use Rattle.rules.specs.Calls.{costLimit, lengthsOk, incumbentOk, isMatching}
 use Rattle.rules.proofs.Bridge.{moved-label, touched-label}
 use Rattle.rules.proofs.Run.{Done, Ranged, effect-later, effect-range}
 use Rattle.rules.proofs.Calls.{is-matching, matching-is}
-use Rattle.messages.specs.World.{lent, Fit}
+use Rattle.messages.specs.Lent.{lent, NodeFits, EdgeFits}
 use Rattle.messages.specs.Step.{Settled, settle, settled}
-use Rattle.messages.specs.LabelMessage.{Moved, labelMove, labelMoved, LabelFit}
+use Rattle.messages.specs.LabelMessage.{Moved, labelMove, labelMoved, labelGiven}
 use Rattle.messages.specs.EdgeRecord.{EdgeMove, edgeMove, edgeMoved}
-use Rattle.messages.specs.RoundRecord.{RoundFit}
-use Rattle.messages.specs.Records.{labelGiven, labelTaken, edgeTaken, EdgeFit}
+use Rattle.messages.specs.RoundRecord.{IncumbentFits}
+use Rattle.messages.specs.Records.{labelTaken, edgeTaken}
 use Rattle.messages.specs.Turn.{Good}
+use Rattle.messages.proofs.OpenLaws.{lengths-are}
 use Rattle.messages.proofs.LentLaws.{LentWell, fit-of}
-use Rattle.messages.proofs.EdgeRecordLaws.{edgeSettled, edge-settled, edge-settled-turned}
+use Rattle.messages.proofs.EdgeRecordLaws.{edgeSettled, edge-settled}
 use Rattle.messages.proofs.RecordLaws.{legal-edge-is, legal-position-is}
 
 -- ---- what was lent well is good
@@ -51,29 +52,23 @@ all-none (k ∷ x) (suc n) e h =
     let (a, b) = and-true (eqb 255 k) (every (eqb 255) x) h in
     ap₂ (λ (i : ℕ) (l : List ℕ). i ∷ l) (sym (eqb-true 255 k a)) (all-none x n (omega arith) b)
 
-pub good-of : (s : List ℕ) (b : Buffers) → LentWell s b → Good s b
+pub good-of : (s : List ℕ) (limit : ℕ) (b : Buffers) → LentWell s limit b → Good s limit b
 unfolding incumbentOk
-good-of s b w = record {
+good-of s limit b w = record {
   readable = w .readable;
   sound = record { sized = sized; incumbent = by-test (every (eqb 255) (b .incumbent)) (λ t. inl (all-none (b .incumbent) (instanceOf s .nodeCount) (w .kept) t)) (λ t. inr (is-matching (instanceOf s) (w .kept) (rest (w .incumbent) t))) };
   ranged = w .ranged;
 }
   where
     sized : Sized (instanceOf s) b
-    sized = record { nodes = w .fit .nodeLength; labels = w .fit .labelLength; edges = w .fit .edgeLength; incumbent = w .kept }
+    sized = let (n, l, e, k) = lengths-are s b (w .lengths) in record { nodes = n; labels = l; edges = e; incumbent = k }
 
     rest : {p q : Bool} → (p || q) ≡ true → p ≡ false → q ≡ true
     rest {p} {q} h e = ap (λ (t : Bool). t || q) (sym e) ∙ h
 
 -- ---- what is good fits
 
-pub edge-fit : {s : List ℕ} {nodes labels edges : List ℤ} → Fit s nodes labels edges → EdgeFit s nodes edges
-edge-fit f = record { nodeLength = f .nodeLength; edgeLength = f .edgeLength; nodeRange = f .nodeRange; edgeRange = f .edgeRange }
-
-pub label-fit : {s : List ℕ} {nodes labels edges : List ℤ} → Fit s nodes labels edges → LabelFit s nodes labels
-label-fit f = record { nodeLength = f .nodeLength; labelLength = f .labelLength; nodeRange = f .nodeRange; labelRange = f .labelRange }
-
-module _ {s : List ℕ} {b : Buffers} (g : Good s b) where
+module _ {s : List ℕ} {limit : ℕ} {b : Buffers} (g : Good s limit b) where
   abbrev I : Instance
   I = instanceOf s
 
@@ -86,19 +81,12 @@ module _ {s : List ℕ} {b : Buffers} (g : Good s b) where
       let z = g .sound .sized in
       rw (eq-eqb (length (b .nodes)) (nodeCells I) (z .nodes), eq-eqb (length (b .labels)) (nodeCells I) (z .labels), eq-eqb (length (b .edges)) (edgeCells I) (z .edges), eq-eqb (length (b .incumbent)) (I .nodeCount) (z .incumbent))
 
-  pub fit : Fit s (b .nodes) (b .labels) (b .edges)
-  fit = fit-of s b lengths (g .ranged)
+  pub fit : limit ≤ costLimit → NodeFits s (b .nodes) × NodeFits s (b .labels) × EdgeFits s (b .edges)
+  fit h = fit-of s limit b h lengths (g .ranged)
 
-  pub round-fit : RoundFit s (b .nodes) (b .edges) (b .incumbent)
+  pub incumbent-fits : IncumbentFits s (b .incumbent)
   unfolding incumbentOk
-  round-fit = record {
-    nodeLength = fit .nodeLength;
-    edgeLength = fit .edgeLength;
-    nodeRange = fit .nodeRange;
-    edgeRange = fit .edgeRange;
-    keptLength = g .sound .sized .incumbent;
-    keptOk = ok (g .sound .incumbent);
-  }
+  incumbent-fits = record { size = g .sound .sized .incumbent; ok = ok (g .sound .incumbent) }
     where
       ok : (b .incumbent ≡ replicate (I .nodeCount) 255) ⊎ Matching I (b .incumbent) → (every (eqb 255) (b .incumbent) || isMatching I (b .incumbent)) ≡ true
       ok (inl e) = ap (λ (t : Bool). t || isMatching I (b .incumbent)) (ap (every (eqb 255)) e ∙ every-replicate (eqb 255) (I .nodeCount) 255 refl)
@@ -109,23 +97,23 @@ module _ {s : List ℕ} {b : Buffers} (g : Good s b) where
           or-true false = refl
 
   -- a record that is done leaves what is good good
-  pub good-next : (kind : Kind) (u k r : ℕ) {b′ : Buffers} {n : ℕ} → settle b′ n 0 ≡ settled b (effect I filmOut b kind u k r) → Good s b′
-  good-next kind u k r {b′} {n} e = go (effect I filmOut b kind u k r) (effect-later I proper filmOut b kind u k r (g .sound)) (effect-range I proper filmOut b kind u k r (g .ranged)) e
+  pub good-next : (kind : Kind) (u k r : ℕ) {b′ : Buffers} {n : ℕ} → settle b′ n 0 ≡ settled b (effect I limit b kind u k r) → Good s limit b′
+  good-next kind u k r {b′} {n} e = go (effect I limit b kind u k r) (effect-later I proper limit b kind u k r (g .sound)) (effect-range I proper limit b kind u k r (g .ranged)) e
     where
-      go : (o : Outcome) → Done I proper b o → Ranged I proper filmOut o → settle b′ n 0 ≡ settled b o → Good s b′
-      go (refused number) d h e = subst (Good s) (sym (ap (λ (z : Settled). z .buffers) e)) g
-      go (done m k) d h e = subst (Good s) (sym (ap (λ (z : Settled). z .buffers) e)) (record { readable = g .readable; sound = d .0; ranged = h })
+      go : (o : Outcome) → Done I proper b o → Ranged I proper limit o → settle b′ n 0 ≡ settled b o → Good s limit b′
+      go (refused number) d h e = subst (Good s limit) (sym (ap (λ (z : Settled). z .buffers) e)) g
+      go (done m k) d h e = subst (Good s limit) (sym (ap (λ (z : Settled). z .buffers) e)) (record { readable = g .readable; sound = d .0; ranged = h })
 
   -- ---- kinds 3 and 4
 
   abbrev labelSettled : Moved → Settled
   labelSettled m = settle (lent (m .nodes) (m .labels) (b .edges) (b .incumbent)) 0 (m .refusal)
 
-  label-settled : (i : ℕ) (p : ℤ) → i < nodeCells I → settled b (checked I filmOut (shift (toLabel i p) b)) ≡ labelSettled (labelMoved (b .nodes) (b .labels) i p)
+  label-settled : (i : ℕ) (p : ℤ) → i < nodeCells I → settled b (checked I limit (shift (toLabel i p) b)) ≡ labelSettled (labelMoved limit (b .nodes) (b .labels) i p)
   unfolding checked labelMoved
   label-settled i p h =
-      ap₂ (λ (t : Bool) (b′ : Buffers). settled b (cond t (done b′ 0) (refused 13))) (touched-label I filmOut (g .sound .sized) (g .ranged) i p h) (moved-label I b i p)
-      ∙ go (within filmOut (costsOf b .node i +ℤ negℤ p) && within filmOut (costsOf b .label i +ℤ p)) (addAt (b .nodes) i (negℤ p)) (addAt (b .labels) i p)
+      ap₂ (λ (t : Bool) (b′ : Buffers). settled b (cond t (done b′ 0) (refused 13))) (touched-label I limit (g .sound .sized) (g .ranged) i p h) (moved-label I b i p)
+      ∙ go (within limit (costsOf b .node i +ℤ negℤ p) && within limit (costsOf b .label i +ℤ p)) (addAt (b .nodes) i (negℤ p)) (addAt (b .labels) i p)
     where
       go : (t : Bool) (l m : List ℤ)
           → settled b (cond t (done (lent l m (b .edges) (b .incumbent)) 0) (refused 13)) ≡ labelSettled (cond t (labelMove 0 l m) (labelMove 13 (b .nodes) (b .labels)))
@@ -145,40 +133,49 @@ module _ {s : List ℕ} {b : Buffers} (g : Good s b) where
   label-either true o m f = f refl
   label-either false o m f = refl
 
-  pub edge-turn : (kind u e r : ℕ) → 1 ≤ kind → kind < 3 → settled b (effect I filmOut b (kindOf kind) u e r) ≡ edgeSettled b (edgeTaken I (b .nodes) (b .edges) (eqb kind 2) u e r)
-  unfolding kindOf effect legalMessage edgeTaken
+  edge-kind : (turned : Bool) (u e r : ℕ)
+      → settled b (cond (legalEdge I u e r) (checked I limit (shift (deltas I (costsOf b) (cond turned edgeToNode nodeToEdge) u e r) b)) (refused 12)) ≡ edgeSettled b (edgeTaken I limit (b .nodes) (b .edges) turned u e r)
+  unfolding edgeTaken
+  edge-kind turned u e r =
+      edge-either (legalEdge I u e r) (checked I limit (shift (deltas I (costsOf b) (cond turned edgeToNode nodeToEdge) u e r) b)) (edgeMoved I (b .nodes) (b .edges) limit turned u e r)
+      (λ t. let (x, y, z, w) = legal-edge-is I u e r t in edge-settled I limit (g .sound .sized) (g .ranged) y z turned r)
+
+  pub edge-turn : (kind u e r : ℕ) → 1 ≤ kind → kind < 3 → settled b (effect I limit b (kindOf kind) u e r) ≡ edgeSettled b (edgeTaken I limit (b .nodes) (b .edges) (eqb kind 2) u e r)
+  unfolding kindOf effect legalMessage
   edge-turn zero u e r h k = absurd (omega arith)
-  edge-turn (suc zero) u e r h k =
-      edge-either (legalEdge I u e r) (checked I filmOut (shift (deltas I (costsOf b) nodeToEdge u e r) b)) (edgeMoved I (b .nodes) (b .edges) false u e r)
-      (λ t. let (x, y, z, w) = legal-edge-is I u e r t in edge-settled I (g .sound .sized) (g .ranged) y z r)
-  edge-turn (suc (suc zero)) u e r h k =
-      edge-either (legalEdge I u e r) (checked I filmOut (shift (deltas I (costsOf b) edgeToNode u e r) b)) (edgeMoved I (b .nodes) (b .edges) true u e r)
-      (λ t. let (x, y, z, w) = legal-edge-is I u e r t in edge-settled-turned I (g .sound .sized) (g .ranged) y z r)
+  edge-turn (suc zero) u e r h k = edge-kind false u e r
+  edge-turn (suc (suc zero)) u e r h k = edge-kind true u e r
   edge-turn (suc (suc (suc n))) u e r h k = absurd (omega arith)
 
   place-in : (u k r : ℕ) → legalPosition I u k r ≡ true → first I u + k < nodeCells I
   place-in u k r t = let (x, y, z) = legal-position-is I u k r t in omega (arith, row-inside proper y)
 
-  pub label-turn : (kind u k r : ℕ) → 3 ≤ kind → kind < 5 → settled b (effect I filmOut b (kindOf kind) u k r) ≡ labelSettled (labelTaken I (b .nodes) (b .labels) (eqb kind 4) u k r)
-  unfolding kindOf effect legalMessage labelTaken deltas
+  label-kind : (turned : Bool) (u k r : ℕ)
+      → settled b (cond (legalPosition I u k r) (checked I limit (shift (deltas I (costsOf b) (cond turned labelToNode nodeToLabel) u k r) b)) (refused 12)) ≡ labelSettled (labelTaken I limit (b .nodes) (b .labels) turned u k r)
+  unfolding labelTaken deltas
+  label-kind turned u k r =
+      label-either (legalPosition I u k r) (checked I limit (shift (deltas I (costsOf b) (cond turned labelToNode nodeToLabel) u k r) b)) (labelMoved limit (b .nodes) (b .labels) (first I u + k) (labelGiven I (b .nodes) (b .labels) turned u (first I u + k) r))
+      (λ t. moved turned (place-in u k r t))
+    where
+      moved : (turned : Bool) → first I u + k < nodeCells I
+          → settled b (checked I limit (shift (deltas I (costsOf b) (cond turned labelToNode nodeToLabel) u k r) b)) ≡ labelSettled (labelMoved limit (b .nodes) (b .labels) (first I u + k) (labelGiven I (b .nodes) (b .labels) turned u (first I u + k) r))
+      moved true h = label-settled (first I u + k) (labelGiven I (b .nodes) (b .labels) true u (first I u + k) r) h
+      moved false h = label-settled (first I u + k) (labelGiven I (b .nodes) (b .labels) false u (first I u + k) r) h
+
+  pub label-turn : (kind u k r : ℕ) → 3 ≤ kind → kind < 5 → settled b (effect I limit b (kindOf kind) u k r) ≡ labelSettled (labelTaken I limit (b .nodes) (b .labels) (eqb kind 4) u k r)
+  unfolding kindOf effect legalMessage
   label-turn zero u k r h m = absurd (omega arith)
   label-turn (suc zero) u k r h m = absurd (omega arith)
   label-turn (suc (suc zero)) u k r h m = absurd (omega arith)
-  label-turn (suc (suc (suc zero))) u k r h m =
-      let p = labelGiven I (b .nodes) (b .labels) false u k r in
-      label-either (legalPosition I u k r) (checked I filmOut (shift (toLabel (first I u + k) p) b)) (labelMoved (b .nodes) (b .labels) (first I u + k) p)
-      (λ t. label-settled (first I u + k) p (place-in u k r t))
-  label-turn (suc (suc (suc (suc zero)))) u k r h m =
-      let p = labelGiven I (b .nodes) (b .labels) true u k r in
-      label-either (legalPosition I u k r) (checked I filmOut (shift (toLabel (first I u + k) p) b)) (labelMoved (b .nodes) (b .labels) (first I u + k) p)
-      (λ t. label-settled (first I u + k) p (place-in u k r t))
+  label-turn (suc (suc (suc zero))) u k r h m = label-kind false u k r
+  label-turn (suc (suc (suc (suc zero)))) u k r h m = label-kind true u k r
   label-turn (suc (suc (suc (suc (suc n))))) u k r h m = absurd (omega arith)
 
   -- a record has at most one stuck rounding
-  pub stuck-once : (kind : Kind) (u k r : ℕ) → settled b (effect I filmOut b kind u k r) .stuck ≤ 1
+  pub stuck-once : (kind : Kind) (u k r : ℕ) → settled b (effect I limit b kind u k r) .stuck ≤ 1
   unfolding effect checked rounded
   stuck-once (message m) u k r =
-      by-cond Once (legalMessage I m u k r) (λ _. by-cond Once (inRange filmOut (shift (deltas I (costsOf b) m u k r) b)) (λ _. omega arith) (λ _. omega arith)) (λ _. omega arith)
+      by-cond Once (legalMessage I m u k r) (λ _. by-cond Once (inRange limit (shift (deltas I (costsOf b) m u k r) b)) (λ _. omega arith) (λ _. omega arith)) (λ _. omega arith)
     where
       Once : Outcome → Type 0
       Once o = settled b o .stuck ≤ 1
@@ -208,6 +205,6 @@ pub kind-rounding : (kind : ℕ) → kind ≡ 5 → kindOf kind ≡ rounding
 unfolding kindOf
 kind-rounding kind e = ap kindOf e
 
-pub none-turn : (I : Instance) (b : Buffers) (kind u k r : ℕ) → (kind ≡ 0) ⊎ (5 < kind) → settle b 0 12 ≡ settled b (effect I filmOut b (kindOf kind) u k r)
+pub none-turn : (I : Instance) (limit : ℕ) (b : Buffers) (kind u k r : ℕ) → (kind ≡ 0) ⊎ (5 < kind) → settle b 0 12 ≡ settled b (effect I limit b (kindOf kind) u k r)
 unfolding effect
-none-turn I b kind u k r h = ap (λ (m : Kind). settled b (effect I filmOut b m u k r)) (sym (kind-none kind h))
+none-turn I limit b kind u k r h = ap (λ (m : Kind). settled b (effect I limit b m u k r)) (sym (kind-none kind h))

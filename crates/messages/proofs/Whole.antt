@@ -3,7 +3,7 @@ use Prim.Native.Nat.{ℕ}
 use mathlib.Core.List.{List}
 use mathlib.Core.Path.{_≡_}
 use Rattle.instance.specs.Sheet.{instanceOf, refusalOf}
-use Rattle.rules.specs.Calls.{Call, Point, points, filmOut}
+use Rattle.rules.specs.Calls.{Call, Point, points, costLimit}
 use Rattle.rules.specs.Demand.{Holds}
 use Rattle.rules.proofs.Calls.{Under}
 use Rattle.messages.proofs.opening.open.Statement as OpenStatement
@@ -25,7 +25,7 @@ pub record Whole : Type 2 where
   -- the calls after an opening go by the rules, and demand 3 holds at every point and between any two
   pub held : (s : List ℕ) (cs : List Call) (ps : List Point) → Trace s cs ps → (ps ≡ points s cs) × Holds (instanceOf s) ps
   -- no list of calls is left out: on a readable sheet each has such a trace
-  pub every : (s : List ℕ) → refusalOf s ≡ 0 → (cs : List Call) → Under filmOut cs → Trace s cs (points s cs)
+  pub every : (s : List ℕ) → refusalOf s ≡ 0 → (cs : List Call) → Under costLimit cs → Trace s cs (points s cs)
 
 -- all of it
 pub whole : Whole

@@ -1,4 +1,5 @@
 -- The least cost of a node and of an edge as parts of the lent buffers.
+use mathlib.Core.Bool.{Bool, cond}
 use mathlib.Core.List.{List, map}
 use Prim.Native.Nat.{ℕ}
 use lib.Dec.{eqb}
@@ -6,14 +7,19 @@ use lib.ListN.{getD}
 use lib.IntN.{ℤ, pos}
 use Rattle.integers.specs.Least.{leastFrom, leastOf}
 use Rattle.integers.specs.Rows.{part}
-use Rattle.integers.specs.Places.{range, select, tabulate}
-use Rattle.instance.specs.Instance.{Instance, first, tableSize, table}
+use Rattle.integers.specs.Places.{range, select, tabulate, offset}
+use Rattle.instance.specs.Instance.{Instance, tableSize}
 
-abbrev pub rowLeast : Instance → List ℤ → ℕ → ℤ
-rowLeast I nodes u = leastOf (part nodes (first I u) (I .degree u))
+-- how many nodes there are, or edges, and how many costs each has
+abbrev pub countOf : Instance → Bool → ℕ
+countOf I ofEdges = cond ofEdges (I .edgeCount) (I .nodeCount)
 
-abbrev pub tableLeast : Instance → List ℤ → ℕ → ℤ
-tableLeast I edges e = leastOf (part edges (table I e) (tableSize I e))
+abbrev pub sizeOf : Instance → Bool → ℕ → ℕ
+sizeOf I ofEdges k = cond ofEdges (tableSize I k) (I .degree k)
+
+-- the least of the k-th part of a list of parts of the sizes z
+abbrev pub partLeast : (ℕ → ℕ) → List ℤ → ℕ → ℤ
+partLeast z l k = leastOf (part l (offset z k) (z k))
 
 -- for each label the least of 0 and its costs among the first i places
 abbrev pub labelBelow : Instance → List ℤ → ℕ → ℕ → ℤ

@@ -1,18 +1,17 @@
 -- Messages between one row of node costs and one edge's table of cells: what is given, and both lists once it is given. Document 01, kinds 1 and 2.
 use mathlib.Core.Path.{_≡_}
 use mathlib.Core.Bool.{Bool, cond}
-use mathlib.Core.List.{List, map}
-use Prim.Native.Nat.{ℕ, _+_, _*_, _/_, _%_, _≤_}
+use mathlib.Core.List.{List, _++_, map}
+use Prim.Native.Nat.{ℕ, _*_, _/_, _%_, _≤_}
 use lib.Dec.{eqb, ltb}
-use lib.ListN.{length, getD}
+use lib.ListN.{length, getD, drop}
 use lib.IntN.{ℤ, pos, negℤ, natAbs, _-ℤ_}
 use lib.Signed.{_≤ℤ_}
 use Rattle.integers.specs.Least.{leastOf}
 use Rattle.integers.specs.Share.{shareDown, excess}
-use Rattle.integers.specs.Rows.{part}
 use Rattle.integers.specs.Places.{tabulate, select, range}
 use Rattle.integers.proofs.Ranges.{shifted}
-use Rattle.rules.specs.Calls.{filmOut}
+use Rattle.rules.specs.Calls.{costLimit}
 
 -- where u stands in the cell j: rows for the lower end, columns for the higher
 abbrev pub positionIn : Bool → ℕ → ℕ → ℕ
@@ -22,10 +21,20 @@ positionIn byRow width j = cond byRow (j / width) (j % width)
 unfoldable pub nodeAmounts : List ℤ → ℕ → List ℤ
 nodeAmounts row r = tabulate 16 (λ k. cond (ltb k (length row)) (shareDown (getD row k (pos 0) -ℤ leastOf row) r) (pos 0))
 
+-- of n cells those with u at its position k: where they stand, and their costs
+abbrev pub placesAt : Bool → ℕ → ℕ → ℕ → List ℕ
+placesAt byRow width n k = select (λ j. eqb (positionIn byRow width j) k) (range 0 n)
+
+abbrev pub cellsAt : Bool → ℕ → List ℤ → ℕ → List ℤ
+cellsAt byRow width cells k = map (λ j. getD cells j (pos 0)) (placesAt byRow width (length cells) k)
+
 -- kind 2 is kind 1 turned round, so the amounts are negated: for each position of u the distance of the least cell there from the least of all
 unfoldable pub edgeAmounts : Bool → ℕ → List ℤ → ℕ → List ℤ
-edgeAmounts byRow width cells r =
-    tabulate 16 (λ k. negℤ (excess (map (λ j. getD cells j (pos 0)) (select (λ j. eqb (positionIn byRow width j) k) (range 0 (length cells)))) (leastOf cells) r))
+edgeAmounts byRow width cells r = tabulate 16 (λ k. negℤ (excess (cellsAt byRow width cells k) (leastOf cells) r))
+
+-- the amounts negated: what the node's costs receive
+abbrev pub takenOf : List ℤ → List ℤ
+takenOf amounts = tabulate 16 (λ k. negℤ (getD amounts k (pos 0)))
 
 -- the node's costs once the amounts are given away
 abbrev pub movedRow : List ℤ → List ℤ → List ℤ
@@ -48,21 +57,17 @@ pub record Shape (width height : ℕ) (cells : List ℤ) : Type 0 where
 -- a cost at or above the least
 pub record Above (low cost : ℤ) : Type 0 where
   pub order : low ≤ℤ cost
-  pub least : natAbs low ≤ filmOut
-  pub most : natAbs cost ≤ filmOut
+  pub least : natAbs low ≤ costLimit
+  pub most : natAbs cost ≤ costLimit
 
 -- a list of which the first n elements are f of their places, and the others are as they were
 unfoldable pub over : (ℕ → ℤ) → ℕ → List ℤ → List ℤ
-over f n l = tabulate (length l) (λ k. cond (ltb k n) (f k) (getD l k (pos 0)))
+over f n l = tabulate n f ++ drop n l
 
 -- one row of the table, the k-th, once it has received its amounts: one for all its cells, or one for each column
 abbrev pub movedLine : Bool → ℕ → List ℤ → List ℤ → List ℤ
 movedLine byRow k amounts line = shifted (λ j. getD amounts (cond byRow k j) (pos 0)) line
 
--- the least of the row k of a table
-abbrev pub rowLeastIn : List ℤ → ℕ → ℕ → ℤ
-rowLeastIn cells width k = leastOf (part cells (k * width) width)
-
--- the least of the column k of a table of n rows
-abbrev pub columnLeast : List ℤ → ℕ → ℕ → ℕ → ℤ
-columnLeast cells width n k = leastOf (map (λ r. getD cells (width * r + k) (pos 0)) (range 0 n))
+-- the least of each position
+abbrev pub leastAt : Bool → ℕ → List ℤ → ℕ → ℤ
+leastAt byRow width cells k = leastOf (cellsAt byRow width cells k)

@@ -1,22 +1,19 @@
 -- Kinds 3 and 4: one amount between the node cost and the label cost of one place.
 use mathlib.Core.Path.{_≡_}
-use mathlib.Core.Bool.{cond, _&&_}
+use mathlib.Core.Bool.{Bool, cond, _&&_}
 use mathlib.Core.List.{List, _∷_, map}
 use Prim.Native.Nat.{ℕ, _+_, _≤_, _<_}
-use lib.ListN.{length, getD}
+use lib.ListN.{getD}
 use lib.IntN.{ℤ, pos, negℤ, _+ℤ_}
 use Rattle.integers.specs.Least.{leastFrom}
 use Rattle.integers.specs.Share.{amount}
-use Rattle.integers.specs.Sum.{Within}
 use Rattle.integers.specs.Rows.{addAt}
 use Rattle.integers.specs.Places.{others}
 use Rattle.integers.specs.Checks.{within}
 use Rattle.instance.specs.Instance.{Instance, first, nodeCells}
-use Rattle.instance.specs.Sheet.{instanceOf}
+use Rattle.instance.specs.Sheet.{instanceOf, refusalOf}
 use Rattle.rules.specs.Places.{nodePlaces, labelPlaces}
-use Rattle.rules.specs.Calls.{filmOut}
-use Rattle.messages.specs.World.{Known}
-use Rattle.messages.specs.Index.{Indexed}
+use Rattle.index.specs.Index.{Indexed}
 
 -- node and label costs that a move leaves, with its refusal: 0, or 13 where a cost would pass the limit and nothing is written
 pub record Moved : Type 0 where
@@ -28,9 +25,9 @@ abbrev pub labelMove : ℕ → List ℤ → List ℤ → Moved
 labelMove refusal nodes labels = record { refusal = refusal; nodes = nodes; labels = labels }
 
 -- p goes from the node cost to the label cost at the place i
-unfoldable pub labelMoved : List ℤ → List ℤ → ℕ → ℤ → Moved
-labelMoved nodes labels i p =
-    cond (within filmOut (getD nodes i (pos 0) +ℤ negℤ p) && within filmOut (getD labels i (pos 0) +ℤ p))
+unfoldable pub labelMoved : ℕ → List ℤ → List ℤ → ℕ → ℤ → Moved
+labelMoved limit nodes labels i p =
+    cond (within limit (getD nodes i (pos 0) +ℤ negℤ p) && within limit (getD labels i (pos 0) +ℤ p))
     (labelMove 0 (addAt nodes i (negℤ p)) (addAt labels i p))
     (labelMove 13 nodes labels)
 
@@ -49,17 +46,14 @@ nodeAmount I nodes u i r = amount (getD nodes i (pos 0)) (map (λ j. getD nodes 
 abbrev pub labelAmount : Instance → List ℤ → ℕ → ℕ → ℤ
 labelAmount I labels i r = amount (getD labels i (pos 0)) (pos 0 ∷ map (λ j. getD labels j (pos 0)) (others i (labelPlaces I (I .label i)))) r
 
--- a sheet that was read and not refused, node u whose places begin at `at`, one of its positions, and a share
-pub record PlaceAsked (s : List ℕ) (n ends at u k share : ℕ) : Type 0 where
-  pub known : Known s n ends
-  pub node : u < n
+-- what goes from the node cost to the label cost there: kind 3, or turned round kind 4
+abbrev pub labelGiven : Instance → List ℤ → List ℤ → Bool → ℕ → ℕ → ℕ → ℤ
+labelGiven I nodes labels turned u i r = cond turned (negℤ (labelAmount I labels i r)) (nodeAmount I nodes u i r)
+
+-- a readable sheet, node u whose places begin at `at`, one of its positions, and a share
+pub record PlaceAsked (s : List ℕ) (at u k share : ℕ) : Type 0 where
+  pub readable : refusalOf s ≡ 0
+  pub node : u < instanceOf s .nodeCount
   pub begins : at ≡ first (instanceOf s) u
   pub position : k < instanceOf s .degree u
   pub some : 1 ≤ share
-
--- node and label costs of the right lengths and within the limit
-pub record LabelFit (s : List ℕ) (nodes labels : List ℤ) : Type 0 where
-  pub nodeLength : length nodes ≡ nodeCells (instanceOf s)
-  pub labelLength : length labels ≡ nodeCells (instanceOf s)
-  pub nodeRange : Within filmOut nodes
-  pub labelRange : Within filmOut labels

@@ -1,7 +1,7 @@
 -- What the contracts of the code that moves costs cite besides the rules.
-pub mod World
+pub mod Lent
+pub mod Seen
 pub mod Bounds
-pub mod Index
 pub mod LabelMessage
 pub mod Incumbent
 pub mod EdgeMessage

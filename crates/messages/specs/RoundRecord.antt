@@ -7,10 +7,9 @@ use Prim.Native.Nat.{ℕ}
 use lib.Dec.{eqb}
 use lib.ListN.{length}
 use lib.IntN.{ℤ}
-use Rattle.integers.specs.Sum.{Within}
-use Rattle.instance.specs.Instance.{Instance, nodeCells, edgeCells}
+use Rattle.instance.specs.Instance.{Instance}
 use Rattle.instance.specs.Sheet.{instanceOf}
-use Rattle.rules.specs.Calls.{filmOut, incumbentOk}
+use Rattle.rules.specs.Calls.{incumbentOk}
 use Rattle.rules.specs.Rounding.{round}
 use Rattle.messages.specs.Incumbent.{adoptedOf}
 use Rattle.messages.specs.Rounded.{costsBy}
@@ -34,11 +33,7 @@ unfoldable pub roundTaken : Instance → List ℤ → List ℤ → List ℕ → 
 roundTaken I nodes edges old u k r =
     cond (eqb u 0 && eqb k 0 && eqb r 0) (roundLeft I (round I (costsBy nodes edges)) old) (roundMove old 0 12)
 
--- lent costs and an incumbent of the right lengths, costs within the limit, and the incumbent a matching or none
-pub record RoundFit (s : List ℕ) (nodes edges : List ℤ) (old : List ℕ) : Type 0 where
-  pub nodeLength : length nodes ≡ nodeCells (instanceOf s)
-  pub edgeLength : length edges ≡ edgeCells (instanceOf s)
-  pub nodeRange : Within filmOut nodes
-  pub edgeRange : Within filmOut edges
-  pub keptLength : length old ≡ instanceOf s .nodeCount
-  pub keptOk : incumbentOk (instanceOf s) old ≡ true
+-- an incumbent of the right length that is a matching or none
+pub record IncumbentFits (s old : List ℕ) : Type 0 where
+  pub size : length old ≡ instanceOf s .nodeCount
+  pub ok : incumbentOk (instanceOf s) old ≡ true

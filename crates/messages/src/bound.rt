@@ -2,83 +2,66 @@
 use crate::rows::least_of;
 use crate::rows::plus;
 use crate::rows::smaller;
-use crate::world::wide;
+use crate::view::View;
+use crate::view::degree_of;
+use crate::view::high_end;
+use crate::view::label_at;
+use crate::view::low_end;
 ghost use mathlib.Core.Path.{_≡_};
-ghost use Prim.Native.Nat.{_+_, _≤_, _<_};
-ghost use lib.ListN.{length, getD};
-ghost use lib.IntN.{pos};
-ghost use Rattle.integers.specs.Sum.{Within};
-ghost use Rattle.integers.specs.Places.{total};
-ghost use Rattle.instance.specs.Sheet.{instanceOf};
-ghost use Rattle.instance.specs.Instance.{nodeCells, tableSize, edgeCells};
 ghost use mathlib.Core.List.{[]};
+ghost use Prim.Native.Nat.{_*_, _≤_, _<_};
+ghost use lib.ListN.{getD};
+ghost use lib.IntN.{pos, natAbs};
+ghost use Rattle.integers.specs.Sum.{Within};
+ghost use Rattle.integers.specs.Places.{total, offset};
+ghost use Rattle.instance.specs.Sheet.{instanceOf};
+ghost use Rattle.instance.specs.Instance.{nodeCells};
 ghost use Rattle.rules.specs.Held.{boundIn};
-ghost use Rattle.rules.specs.Calls.{filmOut};
-ghost use Rattle.messages.specs.World.{Known, Counted, Fit, lent};
-ghost use Rattle.messages.specs.Bounds.{rowLeast, tableLeast, leastLabels};
+ghost use Rattle.rules.specs.Calls.{costLimit};
+ghost use Rattle.messages.specs.Lent.{lent, Fits, NodeFits, EdgeFits};
+ghost use Rattle.messages.specs.Seen.{Viewed};
+ghost use Rattle.messages.specs.Bounds.{countOf, sizeOf, partLeast, leastLabels};
 
-// Each node's least cost.
-fn node_sum(sheet: &[u8], n: usize, ends: usize, nodes: &[i64]) -> i64
-    requires { ⌜ Known (now sheet) n ends ⌝ }
-    requires { ⌜ length (now nodes) ≡ nodeCells (instanceOf (now sheet)) ⌝ }
-    requires { ⌜ Within filmOut (now nodes) ⌝ }
-    ensures { λ r. ⌜ r ≡ total n (rowLeast (instanceOf (now (sheet .entry))) (now (nodes .entry))) ⌝ }
+// How many costs the node `k` has, or the edge `k`.
+fn size_of(sheet: &[u8], view: View, of_edges: bool, k: usize) -> usize
+    requires { ⌜ Viewed (now sheet) view × (k < countOf (instanceOf (now sheet)) «of_edges») ⌝ }
+    ensures { λ r. ⌜ r ≡ sizeOf (instanceOf (now (sheet .entry))) «of_edges» k ⌝ }
 {
-    let mut sum = 0;
-    let mut at = 0;
-    let mut u = 0;
-    while u < n {
-        let to = at + wide(sheet[u]);
-        sum = plus(sum, least_of(&nodes[at..to]));
-        at = to;
-        u += 1;
+    if of_edges {
+        degree_of(sheet, low_end(sheet, view, k)) * degree_of(sheet, high_end(sheet, view, k))
+    } else {
+        degree_of(sheet, k)
     }
-    sum
 }
 
-// How many cells edge `e` has.
-pub(crate) fn cells_of(sheet: &[u8], n: usize, ends: usize, e: usize) -> usize
-    requires { ⌜ Known (now sheet) n ends ⌝ }
-    requires { ⌜ e < instanceOf (now sheet) .edgeCount ⌝ }
-    ensures { λ r. ⌜ r ≡ tableSize (instanceOf (now (sheet .entry))) e ⌝ }
-{
-    let at = ends + 2 * e;
-    let u = wide(sheet[at]);
-    let v = wide(sheet[at + 1]);
-    wide(sheet[u]) * wide(sheet[v])
-}
-
-// Each edge's least cell.
-fn edge_sum(sheet: &[u8], n: usize, ends: usize, count: usize, edges: &[i64]) -> i64
-    requires { ⌜ Known (now sheet) n ends ⌝ }
-    requires { ⌜ count ≡ instanceOf (now sheet) .edgeCount ⌝ }
-    requires { ⌜ length (now edges) ≡ edgeCells (instanceOf (now sheet)) ⌝ }
-    requires { ⌜ Within filmOut (now edges) ⌝ }
-    ensures { λ r. ⌜ r ≡ total count (tableLeast (instanceOf (now (sheet .entry))) (now (edges .entry))) ⌝ }
+// The sum of each node's least cost, or of each edge's least cell.
+fn least_sum(sheet: &[u8], view: View, of_edges: bool, count: usize, costs: &[i64]) -> i64
+    requires { ⌜ Viewed (now sheet) view × (count ≡ countOf (instanceOf (now sheet)) «of_edges») ⌝ }
+    requires { ⌜ Fits (offset (sizeOf (instanceOf (now sheet)) «of_edges») count) (now costs) ⌝ }
+    ensures { λ r. ⌜ (r ≡ total count (partLeast (sizeOf (instanceOf (now (sheet .entry))) «of_edges») (now (costs .entry)))) × (natAbs r ≤ count * costLimit) ⌝ }
 {
     let mut sum = 0;
     let mut at = 0;
-    let mut e = 0;
-    while e < count {
-        let to = at + cells_of(sheet, n, ends, e);
-        sum = plus(sum, least_of(&edges[at..to]));
+    let mut k = 0;
+    while k < count {
+        let to = at + size_of(sheet, view, of_edges, k);
+        sum = plus(sum, least_of(&costs[at..to]));
         at = to;
-        e += 1;
+        k += 1;
     }
     sum
 }
 
 // For each label the least of 0 and its label costs.
-fn label_leasts(sheet: &[u8], n: usize, ends: usize, positions: usize, labels: &[i64]) -> [i64; 64]
-    requires { ⌜ Known (now sheet) n ends ⌝ }
-    requires { ⌜ positions ≡ nodeCells (instanceOf (now sheet)) ⌝ }
-    requires { ⌜ length (now labels) ≡ positions ⌝ }
-    ensures { λ r. ⌜ r ≡ leastLabels (instanceOf (now (sheet .entry))) (now (labels .entry)) positions ⌝ }
+fn label_leasts(sheet: &[u8], view: View, labels: &[i64]) -> [i64; 64]
+    requires { ⌜ Viewed (now sheet) view ⌝ }
+    requires { ⌜ NodeFits (now sheet) (now labels) ⌝ }
+    ensures { λ r. ⌜ r ≡ leastLabels (instanceOf (now (sheet .entry))) (now (labels .entry)) (nodeCells (instanceOf (now (sheet .entry)))) ⌝ }
 {
     let mut least = [0i64; 64];
     let mut i = 0;
-    while i < positions {
-        let l = wide(sheet[n + i]);
+    while i < labels.len() {
+        let l = label_at(sheet, view, i);
         least[l] = smaller(labels[i], least[l]);
         i += 1;
     }
@@ -88,8 +71,8 @@ fn label_leasts(sheet: &[u8], n: usize, ends: usize, positions: usize, labels: &
 // The sum of the first `count`.
 fn label_sum(least: &[i64; 64], count: usize) -> i64
     requires { ⌜ count ≤ 64 ⌝ }
-    requires { ⌜ Within filmOut (now least) ⌝ }
-    ensures { λ r. ⌜ r ≡ total count (λ l. getD (now (least .entry)) l (pos 0)) ⌝ }
+    requires { ⌜ Within costLimit (now least) ⌝ }
+    ensures { λ r. ⌜ (r ≡ total count (λ l. getD (now (least .entry)) l (pos 0))) × (natAbs r ≤ count * costLimit) ⌝ }
 {
     let mut sum = 0;
     let mut l = 0;
@@ -103,23 +86,18 @@ fn label_sum(least: &[i64; 64], count: usize) -> i64
 // The bound of the lent costs.
 pub(crate) fn lower_bound(
     sheet: &[u8],
-    n: usize,
-    ends: usize,
-    positions: usize,
-    known: usize,
-    count: usize,
+    view: View,
     nodes: &[i64],
     labels: &[i64],
     edges: &[i64],
 ) -> i64
-    requires { ⌜ Known (now sheet) n ends ⌝ }
-    requires { ⌜ Counted (now sheet) positions known count ⌝ }
-    requires { ⌜ Fit (now sheet) (now nodes) (now labels) (now edges) ⌝ }
-    ensures { λ r. ⌜ r ≡ boundIn (instanceOf (now (sheet .entry))) (lent (now (nodes .entry)) (now (labels .entry)) (now (edges .entry)) []) ⌝ }
+    requires { ⌜ Viewed (now sheet) view ⌝ }
+    requires { ⌜ NodeFits (now sheet) (now nodes) × NodeFits (now sheet) (now labels) × EdgeFits (now sheet) (now edges) ⌝ }
+    ensures { λ r. ⌜ (r ≡ boundIn (instanceOf (now (sheet .entry))) (lent (now (nodes .entry)) (now (labels .entry)) (now (edges .entry)) [])) × (natAbs r ≤ 384 * costLimit) ⌝ }
 {
-    let least = label_leasts(sheet, n, ends, positions, labels);
-    let by_label = label_sum(&least, known);
-    let by_node = node_sum(sheet, n, ends, nodes);
-    let by_edge = edge_sum(sheet, n, ends, count, edges);
+    let least = label_leasts(sheet, view, labels);
+    let by_label = label_sum(&least, view.labels);
+    let by_node = least_sum(sheet, view, false, view.nodes, nodes);
+    let by_edge = least_sum(sheet, view, true, view.edges, edges);
     plus(plus(by_node, by_edge), by_label)
 }

@@ -6,7 +6,7 @@ use crate::rows::least_of;
 use crate::rows::less_at;
 use crate::rows::share_of;
 ghost use mathlib.Core.Path.{_≡_};
-ghost use mathlib.Core.Bool.{true, false};
+ghost use mathlib.Core.Bool.{false, cond};
 ghost use Prim.Native.Nat.{ℕ, _^_, _≤_, _<_};
 ghost use lib.Dec.{ltb};
 ghost use lib.ListN.{length, getD, set, replicate};
@@ -18,8 +18,8 @@ ghost use Rattle.integers.specs.Checks.{within};
 ghost use Rattle.integers.proofs.Ranges.{shifted};
 ghost use mir.Syntax.{w64};
 ghost use mir.Val.{SFits};
-ghost use Rattle.rules.specs.Calls.{filmOut};
-ghost use Rattle.messages.specs.EdgeMessage.{nodeAmounts, edgeAmounts, movedRow, movedCells, movedLine, Shape, Above, over, rowLeastIn, columnLeast};
+ghost use Rattle.rules.specs.Calls.{costLimit};
+ghost use Rattle.messages.specs.EdgeMessage.{nodeAmounts, edgeAmounts, takenOf, movedCells, movedLine, Shape, Above, over, leastAt};
 
 // One r-th of how far a cost is above the least, rounded down.
 fn above(cost: i64, low: i64, share: u8) -> i64
@@ -43,7 +43,7 @@ fn turned(cost: i64, low: i64, share: u8) -> i64
 pub(crate) fn node_amounts(row: &[i64], share: u8) -> [i64; 16]
     requires { ⌜ (0 < length (now row)) × (length (now row) ≤ 16) ⌝ }
     requires { ⌜ 1 ≤ share ⌝ }
-    requires { ⌜ Within filmOut (now row) ⌝ }
+    requires { ⌜ Within costLimit (now row) ⌝ }
     ensures { λ r. ⌜ r ≡ nodeAmounts (now (row .entry)) share ⌝ }
 {
     let low = least_of(row);
@@ -74,7 +74,7 @@ fn turn_all(least: &mut [i64; 16], width: usize, low: i64, share: u8)
 fn column_low(cells: &[i64], width: usize, height: usize, k: usize) -> i64
     requires { ⌜ Shape width height (now cells) ⌝ }
     requires { ⌜ k < width ⌝ }
-    ensures { λ r. ⌜ r ≡ columnLeast (now (cells .entry)) width height k ⌝ }
+    ensures { λ r. ⌜ r ≡ leastAt false width (now (cells .entry)) k ⌝ }
 {
     let mut best = cells[k];
     let mut at = k + width;
@@ -87,64 +87,44 @@ fn column_low(cells: &[i64], width: usize, height: usize, k: usize) -> i64
     best
 }
 
-// The least of each column of an edge's table.
-fn column_least(cells: &[i64], width: usize, height: usize) -> [i64; 16]
+// The least of the cells with an edge's end at its position `k`: of the lower end a row, of the higher a column.
+fn low_at(cells: &[i64], width: usize, height: usize, by_row: bool, k: usize) -> i64
     requires { ⌜ Shape width height (now cells) ⌝ }
-    ensures { λ r. ⌜ r ≡ over (columnLeast (now (cells .entry)) width height) width (replicate 16 (pos 0)) ⌝ }
+    requires { ⌜ k < cond «by_row» height width ⌝ }
+    ensures { λ r. ⌜ r ≡ leastAt «by_row» width (now (cells .entry)) k ⌝ }
 {
-    let mut least = [0; 16];
-    let mut k = 0;
-    while k < width {
-        least[k] = column_low(cells, width, height, k);
-        k += 1;
-    }
-    least
-}
-
-// The least of each row of an edge's table.
-fn row_least(cells: &[i64], width: usize, height: usize) -> [i64; 16]
-    requires { ⌜ Shape width height (now cells) ⌝ }
-    ensures { λ r. ⌜ r ≡ over (rowLeastIn (now (cells .entry)) width) height (replicate 16 (pos 0)) ⌝ }
-{
-    let mut least = [0; 16];
-    let mut k = 0;
-    let mut a = 0;
-    while k < height {
+    if by_row {
+        let a = k * width;
         let b = a + width;
-        least[k] = least_of(&cells[a..b]);
-        a = b;
+        least_of(&cells[a..b])
+    } else {
+        column_low(cells, width, height, k)
+    }
+}
+
+// How many positions an edge's end has.
+fn positions(width: usize, height: usize, by_row: bool) -> usize
+    ensures { λ r. ⌜ r ≡ cond «by_row» height width ⌝ }
+{
+    if by_row { height } else { width }
+}
+
+// The least of each position of an edge's end.
+fn least_by(cells: &[i64], width: usize, height: usize, by_row: bool) -> [i64; 16]
+    requires { ⌜ Shape width height (now cells) ⌝ }
+    ensures { λ r. ⌜ r ≡ over (leastAt «by_row» width (now (cells .entry))) (cond «by_row» height width) (replicate 16 (pos 0)) ⌝ }
+{
+    let many = positions(width, height, by_row);
+    let mut least = [0; 16];
+    let mut k = 0;
+    while k < many {
+        least[k] = low_at(cells, width, height, by_row, k);
         k += 1;
     }
     least
 }
 
-// What each column of an edge's table gives.
-fn column_amounts(cells: &[i64], width: usize, height: usize, share: u8) -> [i64; 16]
-    requires { ⌜ Shape width height (now cells) ⌝ }
-    requires { ⌜ 1 ≤ share ⌝ }
-    requires { ⌜ Within filmOut (now cells) ⌝ }
-    ensures { λ r. ⌜ r ≡ edgeAmounts false width (now (cells .entry)) share ⌝ }
-{
-    let mut amounts = column_least(cells, width, height);
-    let low = least_of(&amounts[..width]);
-    turn_all(&mut amounts, width, low, share);
-    amounts
-}
-
-// What each row of an edge's table gives.
-fn row_amounts(cells: &[i64], width: usize, height: usize, share: u8) -> [i64; 16]
-    requires { ⌜ Shape width height (now cells) ⌝ }
-    requires { ⌜ 1 ≤ share ⌝ }
-    requires { ⌜ Within filmOut (now cells) ⌝ }
-    ensures { λ r. ⌜ r ≡ edgeAmounts true width (now (cells .entry)) share ⌝ }
-{
-    let mut amounts = row_least(cells, width, height);
-    let low = least_of(&amounts[..height]);
-    turn_all(&mut amounts, height, low, share);
-    amounts
-}
-
-// What each position of an edge's end gives: of the lower end the rows, of the higher the columns.
+// What each position of an edge's end gives.
 pub(crate) fn edge_amounts(
     cells: &[i64],
     width: usize,
@@ -154,90 +134,80 @@ pub(crate) fn edge_amounts(
 ) -> [i64; 16]
     requires { ⌜ Shape width height (now cells) ⌝ }
     requires { ⌜ 1 ≤ share ⌝ }
-    requires { ⌜ Within filmOut (now cells) ⌝ }
+    requires { ⌜ Within costLimit (now cells) ⌝ }
     ensures { λ r. ⌜ r ≡ edgeAmounts «by_row» width (now (cells .entry)) share ⌝ }
 {
-    if by_row {
-        row_amounts(cells, width, height, share)
-    } else {
-        column_amounts(cells, width, height, share)
+    let mut amounts = least_by(cells, width, height, by_row);
+    let many = positions(width, height, by_row);
+    let low = least_of(&amounts[..many]);
+    turn_all(&mut amounts, many, low, share);
+    amounts
+}
+
+// The amounts negated: what the node's costs receive.
+pub(crate) fn negated(amounts: &[i64; 16]) -> [i64; 16]
+    requires { ⌜ Within (2 ^ 41) (now amounts) ⌝ }
+    ensures { λ r. ⌜ r ≡ takenOf (now (amounts .entry)) ⌝ }
+{
+    let mut taken = [0; 16];
+    let mut k = 0;
+    while k < 16 {
+        taken[k] = -amounts[k];
+        k += 1;
     }
+    taken
 }
 
 // At least `OUT` if a cost that receives an amount passes the limit.
-fn excess_with(cost: i64, amount: i64) -> u64
-    requires { ⌜ (natAbs cost ≤ filmOut) × (natAbs amount ≤ 2 ^ 41) ⌝ }
-    ensures { λ r. ⌜ ltb r (2 ^ 63) ≡ within filmOut (cost +ℤ amount) ⌝ }
+fn excess_with(cost: i64, amount: i64, limit: u64) -> u64
+    requires { ⌜ (natAbs cost ≤ costLimit) × (natAbs amount ≤ 2 ^ 41) × (limit ≤ costLimit) ⌝ }
+    ensures { λ r. ⌜ ltb r (2 ^ 63) ≡ within limit (cost +ℤ amount) ⌝ }
 {
-    excess(cost + amount)
+    excess(cost + amount, limit)
 }
 
-// At least `OUT` if a cost that gives an amount does.
-fn excess_without(cost: i64, amount: i64) -> u64
-    requires { ⌜ (natAbs cost ≤ filmOut) × (natAbs amount ≤ 2 ^ 41) ⌝ }
-    ensures { λ r. ⌜ ltb r (2 ^ 63) ≡ within filmOut (cost +ℤ negℤ amount) ⌝ }
-{
-    excess(cost - amount)
-}
-
-// Whether each of a node's costs that gives its amount stays within the limit.
-pub(crate) fn row_fits(row: &[i64], amounts: &[i64; 16]) -> bool
-    requires { ⌜ length (now row) ≤ 16 ⌝ }
-    requires { ⌜ Within filmOut (now row) ⌝ }
-    requires { ⌜ Within (2 ^ 41) (now amounts) ⌝ }
-    ensures { λ r. ⌜ r ≡ every (within filmOut) (movedRow (now (amounts .entry)) (now (row .entry))) ⌝ }
-{
-    let mut all = 0;
-    let mut place = 0;
-    while place < row.len() {
-        all = all | excess_without(row[place], amounts[place]);
-        place += 1;
-    }
-    all < OUT
-}
-
-// At least `OUT` if a cell of a row that receives one amount passes the limit.
-fn excess_all(line: &[i64], amount: i64) -> u64
-    requires { ⌜ Within filmOut (now line) ⌝ }
-    requires { ⌜ natAbs amount ≤ 2 ^ 41 ⌝ }
-    ensures { λ r. ⌜ ltb r (2 ^ 63) ≡ every (within filmOut) (shifted (λ k. amount) (now (line .entry))) ⌝ }
+// At least `OUT` if one of some costs that receive one amount does.
+fn excess_all(line: &[i64], amount: i64, limit: u64) -> u64
+    requires { ⌜ Within costLimit (now line) ⌝ }
+    requires { ⌜ (natAbs amount ≤ 2 ^ 41) × (limit ≤ costLimit) ⌝ }
+    ensures { λ r. ⌜ ltb r (2 ^ 63) ≡ every (within limit) (shifted (λ k. amount) (now (line .entry))) ⌝ }
 {
     let mut all = 0;
     let mut k = 0;
     while k < line.len() {
-        all = all | excess_with(line[k], amount);
+        all = all | excess_with(line[k], amount, limit);
         k += 1;
     }
     all
 }
 
-// At least `OUT` if a cell of a row that receives the amount at its column does.
-fn excess_each(line: &[i64], amounts: &[i64; 16]) -> u64
+// At least `OUT` if one of some costs that receive each its amount does.
+pub(crate) fn excess_each(line: &[i64], amounts: &[i64; 16], limit: u64) -> u64
     requires { ⌜ length (now line) ≤ 16 ⌝ }
-    requires { ⌜ Within filmOut (now line) ⌝ }
-    requires { ⌜ Within (2 ^ 41) (now amounts) ⌝ }
-    ensures { λ r. ⌜ ltb r (2 ^ 63) ≡ every (within filmOut) (shifted (λ k. getD (now (amounts .entry)) k (pos 0)) (now (line .entry))) ⌝ }
+    requires { ⌜ Within costLimit (now line) ⌝ }
+    requires { ⌜ Within (2 ^ 41) (now amounts) × (limit ≤ costLimit) ⌝ }
+    ensures { λ r. ⌜ ltb r (2 ^ 63) ≡ every (within limit) (shifted (λ k. getD (now (amounts .entry)) k (pos 0)) (now (line .entry))) ⌝ }
 {
     let mut all = 0;
     let mut k = 0;
     while k < line.len() {
-        all = all | excess_with(line[k], amounts[k]);
+        all = all | excess_with(line[k], amounts[k], limit);
         k += 1;
     }
     all
 }
 
 // At least `OUT` if a cell of the k-th row of a table that receives its amount does.
-fn excess_line(line: &[i64], k: usize, by_row: bool, amounts: &[i64; 16]) -> u64
+fn excess_line(line: &[i64], k: usize, by_row: bool, amounts: &[i64; 16], limit: u64) -> u64
     requires { ⌜ (length (now line) ≤ 16) × (k < 16) ⌝ }
-    requires { ⌜ Within filmOut (now line) ⌝ }
-    requires { ⌜ Within (2 ^ 41) (now amounts) ⌝ }
-    ensures { λ r. ⌜ ltb r (2 ^ 63) ≡ every (within filmOut) (movedLine «by_row» k (now (amounts .entry)) (now (line .entry))) ⌝ }
+    requires { ⌜ Within costLimit (now line) ⌝ }
+    requires { ⌜ Within (2 ^ 41) (now amounts) × (limit ≤ costLimit) ⌝ }
+    ensures { λ r. ⌜ ltb r (2 ^ 63) ≡ every (within limit) (movedLine «by_row» k (now (amounts .entry)) (now (line .entry))) ⌝ }
 {
     if by_row {
-        excess_all(line, amounts[k])
+        excess_all(line, amounts[k], limit)
     } else {
-        excess_each(line, amounts)
+        excess_each(line, amounts, limit)
     }
 }
 
@@ -248,18 +218,19 @@ fn each_cell_fits(
     height: usize,
     by_row: bool,
     amounts: &[i64; 16],
+    limit: u64,
 ) -> bool
     requires { ⌜ Shape width height (now cells) ⌝ }
-    requires { ⌜ Within filmOut (now cells) ⌝ }
-    requires { ⌜ Within (2 ^ 41) (now amounts) ⌝ }
-    ensures { λ r. ⌜ r ≡ every (within filmOut) (movedCells «by_row» width (now (amounts .entry)) (now (cells .entry))) ⌝ }
+    requires { ⌜ Within costLimit (now cells) ⌝ }
+    requires { ⌜ Within (2 ^ 41) (now amounts) × (limit ≤ costLimit) ⌝ }
+    ensures { λ r. ⌜ r ≡ every (within limit) (movedCells «by_row» width (now (amounts .entry)) (now (cells .entry))) ⌝ }
 {
     let mut all = 0;
     let mut k = 0;
     let mut a = 0;
     while k < height {
         let b = a + width;
-        all = all | excess_line(&cells[a..b], k, by_row, amounts);
+        all = all | excess_line(&cells[a..b], k, by_row, amounts, limit);
         a = b;
         k += 1;
     }
@@ -273,18 +244,19 @@ pub(crate) fn cells_fit(
     height: usize,
     by_row: bool,
     amounts: &[i64; 16],
+    limit: u64,
 ) -> bool
     requires { ⌜ Shape width height (now cells) ⌝ }
-    requires { ⌜ Within filmOut (now cells) ⌝ }
-    requires { ⌜ Within (2 ^ 41) (now amounts) ⌝ }
-    ensures { λ r. ⌜ r ≡ every (within filmOut) (movedCells «by_row» width (now (amounts .entry)) (now (cells .entry))) ⌝ }
+    requires { ⌜ Within costLimit (now cells) ⌝ }
+    requires { ⌜ Within (2 ^ 41) (now amounts) × (limit ≤ costLimit) ⌝ }
+    ensures { λ r. ⌜ r ≡ every (within limit) (movedCells «by_row» width (now (amounts .entry)) (now (cells .entry))) ⌝ }
 {
-    if all_half(amounts) {
-        if all_half(cells) {
+    if all_half(amounts, limit / 2) {
+        if all_half(cells, limit / 2) {
             return true;
         }
     }
-    each_cell_fits(cells, width, height, by_row, amounts)
+    each_cell_fits(cells, width, height, by_row, amounts, limit)
 }
 
 // Adds an amount to a cost.
@@ -296,32 +268,9 @@ fn add_at(costs: &mut [i64], k: usize, amount: i64)
     costs[k] = costs[k] + amount;
 }
 
-// Takes an amount from a cost.
-fn sub_at(costs: &mut [i64], k: usize, amount: i64)
-    requires { ⌜ k < length (now costs) ⌝ }
-    requires { ⌜ SFits w64 (getD (now costs) k (pos 0) -ℤ amount) ⌝ }
-    ensures { λ _. ⌜ now (costs .exit) ≡ set (now (costs .entry)) k (getD (now (costs .entry)) k (pos 0) -ℤ amount) ⌝ }
-{
-    costs[k] = costs[k] - amount;
-}
-
-// Takes from each of a node's costs its amount.
-pub(crate) fn move_row(row: &mut [i64], amounts: &[i64; 16])
-    requires { ⌜ length (now row) ≤ 16 ⌝ }
-    requires { ⌜ Within filmOut (now row) ⌝ }
-    requires { ⌜ Within (2 ^ 41) (now amounts) ⌝ }
-    ensures { λ _. ⌜ now (row .exit) ≡ movedRow (now (amounts .entry)) (now (row .entry)) ⌝ }
-{
-    let mut k = 0;
-    while k < row.len() {
-        sub_at(row, k, amounts[k]);
-        k += 1;
-    }
-}
-
 // Adds one amount to each cell of a row.
 fn raise_all(line: &mut [i64], amount: i64)
-    requires { ⌜ Within filmOut (now line) ⌝ }
+    requires { ⌜ Within costLimit (now line) ⌝ }
     requires { ⌜ natAbs amount ≤ 2 ^ 41 ⌝ }
     ensures { λ _. ⌜ now (line .exit) ≡ shifted (λ k. amount) (now (line .entry)) ⌝ }
 {
@@ -332,10 +281,10 @@ fn raise_all(line: &mut [i64], amount: i64)
     }
 }
 
-// Adds to each cell of a row the amount at its column.
-fn raise_each(line: &mut [i64], amounts: &[i64; 16])
+// Adds to each of some costs its amount.
+pub(crate) fn raise_each(line: &mut [i64], amounts: &[i64; 16])
     requires { ⌜ length (now line) ≤ 16 ⌝ }
-    requires { ⌜ Within filmOut (now line) ⌝ }
+    requires { ⌜ Within costLimit (now line) ⌝ }
     requires { ⌜ Within (2 ^ 41) (now amounts) ⌝ }
     ensures { λ _. ⌜ now (line .exit) ≡ shifted (λ k. getD (now (amounts .entry)) k (pos 0)) (now (line .entry)) ⌝ }
 {
@@ -349,7 +298,7 @@ fn raise_each(line: &mut [i64], amounts: &[i64; 16])
 // Adds to each cell of the k-th row of a table its amount.
 fn move_line(line: &mut [i64], k: usize, by_row: bool, amounts: &[i64; 16])
     requires { ⌜ (length (now line) ≤ 16) × (k < 16) ⌝ }
-    requires { ⌜ Within filmOut (now line) ⌝ }
+    requires { ⌜ Within costLimit (now line) ⌝ }
     requires { ⌜ Within (2 ^ 41) (now amounts) ⌝ }
     ensures { λ _. ⌜ now (line .exit) ≡ movedLine «by_row» k (now (amounts .entry)) (now (line .entry)) ⌝ }
 {
@@ -369,7 +318,7 @@ pub(crate) fn move_cells(
     amounts: &[i64; 16],
 )
     requires { ⌜ Shape width height (now cells) ⌝ }
-    requires { ⌜ Within filmOut (now cells) ⌝ }
+    requires { ⌜ Within costLimit (now cells) ⌝ }
     requires { ⌜ Within (2 ^ 41) (now amounts) ⌝ }
     ensures { λ _. ⌜ now (cells .exit) ≡ movedCells «by_row» width (now (amounts .entry)) (now (cells .entry)) ⌝ }
 {

@@ -1,40 +1,45 @@
 // Messages between a node and a label: kinds 3 and 4.
-use crate::index::number;
+use crate::records::Record;
 use crate::rows::amount_of;
 use crate::rows::in_range;
 use crate::rows::minus;
 use crate::rows::plus;
 use crate::rows::share_of;
 use crate::rows::smaller;
-use crate::world::wide;
+use crate::view::View;
+use crate::view::degree_of;
+use crate::view::label_at;
+use index::number;
 use instance::refusal::COST_OVERFLOW;
 use instance::refusal::NONE;
 ghost use mathlib.Core.Path.{_≡_};
 ghost use mathlib.Core.List.{[], _∷_, map};
 ghost use Prim.Native.Nat.{ℕ, _+_, _*_, _^_, _≤_, _<_};
 ghost use lib.ListN.{length, getD};
-ghost use lib.IntN.{pos, negℤ, natAbs};
+ghost use lib.IntN.{pos, natAbs};
 ghost use Rattle.integers.specs.Least.{leastFrom};
 ghost use Rattle.integers.specs.Sum.{Within};
 ghost use Rattle.integers.specs.Places.{others};
 ghost use Rattle.instance.specs.Sheet.{instanceOf};
 ghost use Rattle.instance.specs.Instance.{nodeCells};
-ghost use Rattle.rules.specs.Calls.{filmOut};
-ghost use Rattle.messages.specs.Index.{many, held};
-ghost use Rattle.messages.specs.LabelMessage.{labelMoved, labelMove, nodeAmount, labelAmount, PlaceAsked, LabelFit, Holders};
+ghost use Rattle.rules.specs.Calls.{costLimit};
+ghost use Rattle.messages.specs.Lent.{NodeFits};
+ghost use Rattle.messages.specs.Seen.{Viewed};
+ghost use Rattle.index.specs.Index.{many, held};
+ghost use Rattle.messages.specs.LabelMessage.{labelMoved, labelMove, nodeAmount, labelAmount, labelGiven, PlaceAsked, Holders};
 
 // Moves `p` from the node cost to the label cost at the place `i`, where both stay within the limit.
-fn shift_label(nodes: &mut [i64], labels: &mut [i64], i: usize, p: i64) -> u8
+pub(crate) fn shift_label(nodes: &mut [i64], labels: &mut [i64], i: usize, p: i64, limit: u64) -> u8
     requires { ⌜ (i < length (now nodes)) × (i < length (now labels)) ⌝ }
-    requires { ⌜ Within filmOut (now nodes) ⌝ }
-    requires { ⌜ Within filmOut (now labels) ⌝ }
+    requires { ⌜ Within costLimit (now nodes) ⌝ }
+    requires { ⌜ Within costLimit (now labels) ⌝ }
     requires { ⌜ natAbs p ≤ 2 ^ 41 ⌝ }
-    ensures { λ r. ⌜ labelMove r (now (nodes .exit)) (now (labels .exit)) ≡ labelMoved (now (nodes .entry)) (now (labels .entry)) i p ⌝ }
+    ensures { λ r. ⌜ labelMove r (now (nodes .exit)) (now (labels .exit)) ≡ labelMoved limit (now (nodes .entry)) (now (labels .entry)) i p ⌝ }
 {
     let node = minus(nodes[i], p);
     let label = plus(labels[i], p);
-    if in_range(node) {
-        if in_range(label) {
+    if in_range(node, limit) {
+        if in_range(label, limit) {
             nodes[i] = node;
             labels[i] = label;
             return NONE;
@@ -72,90 +77,59 @@ fn label_rival(labels: &[i64], holders: &[u16; 4160], label: usize, own: usize) 
     best
 }
 
-// What the node cost at position k gives to its label: kind 3.
-fn node_amount(
-    sheet: &[u8],
-    n: usize,
-    ends: usize,
-    at: usize,
-    nodes: &[i64],
-    u: usize,
-    k: usize,
-    share: u8,
-) -> i64
-    requires { ⌜ PlaceAsked (now sheet) n ends at u k share ⌝ }
-    requires { ⌜ length (now nodes) ≡ nodeCells (instanceOf (now sheet)) ⌝ }
-    requires { ⌜ Within filmOut (now nodes) ⌝ }
-    ensures { λ r. ⌜ r ≡ nodeAmount (instanceOf (now (sheet .entry))) (now (nodes .entry)) u (at + k) share ⌝ }
+// What the record's node cost gives to its label: kind 3. The node's costs begin at `at`.
+fn node_amount(sheet: &[u8], nodes: &[i64], at: usize, step: Record) -> i64
+    requires { ⌜ PlaceAsked (now sheet) at (step .node) (step .index) (step .share) ⌝ }
+    requires { ⌜ NodeFits (now sheet) (now nodes) ⌝ }
+    ensures { λ r. ⌜ r ≡ nodeAmount (instanceOf (now (sheet .entry))) (now (nodes .entry)) (step .node) (at + step .index) (step .share) ⌝ }
 {
-    let to = at + wide(sheet[u]);
-    amount_of(&nodes[at..to], k, share)
+    let to = at + degree_of(sheet, step.node);
+    amount_of(&nodes[at..to], step.index, step.share)
 }
 
-// What the label cost there gives to the node: kind 4.
+// What the label cost at a place gives to the node: kind 4.
 fn label_amount(
     sheet: &[u8],
-    n: usize,
-    ends: usize,
+    view: View,
     holders: &[u16; 4160],
-    at: usize,
     labels: &[i64],
-    u: usize,
-    k: usize,
+    place: usize,
     share: u8,
 ) -> i64
-    requires { ⌜ PlaceAsked (now sheet) n ends at u k share ⌝ }
+    requires { ⌜ Viewed (now sheet) view × (place < nodeCells (instanceOf (now sheet))) × (1 ≤ share) ⌝ }
     requires { ⌜ Holders (now sheet) (now holders) ⌝ }
-    requires { ⌜ length (now labels) ≡ nodeCells (instanceOf (now sheet)) ⌝ }
-    requires { ⌜ Within filmOut (now labels) ⌝ }
-    ensures { λ r. ⌜ r ≡ labelAmount (instanceOf (now (sheet .entry))) (now (labels .entry)) (at + k) share ⌝ }
+    requires { ⌜ NodeFits (now sheet) (now labels) ⌝ }
+    ensures { λ r. ⌜ r ≡ labelAmount (instanceOf (now (sheet .entry))) (now (labels .entry)) place share ⌝ }
 {
-    let place = at + k;
-    let label = wide(sheet[n + place]);
+    let label = label_at(sheet, view, place);
     share_of(
         minus(labels[place], label_rival(labels, holders, label, place)),
         share,
     )
 }
 
-// A record of kind 3: node u to its label at position k.
-pub(crate) fn node_to_label(
+// What goes from the node cost to the label cost at the record's place: kind 3, or turned round kind 4.
+pub(crate) fn given(
     sheet: &[u8],
-    n: usize,
-    ends: usize,
-    at: usize,
-    nodes: &mut [i64],
-    labels: &mut [i64],
-    u: usize,
-    k: usize,
-    share: u8,
-) -> u8
-    requires { ⌜ PlaceAsked (now sheet) n ends at u k share ⌝ }
-    requires { ⌜ LabelFit (now sheet) (now nodes) (now labels) ⌝ }
-    ensures { λ r. ⌜ labelMove r (now (nodes .exit)) (now (labels .exit)) ≡ labelMoved (now (nodes .entry)) (now (labels .entry)) (at + k) (nodeAmount (instanceOf (now (sheet .entry))) (now (nodes .entry)) u (at + k) share) ⌝ }
-{
-    let p = node_amount(sheet, n, ends, at, nodes, u, k, share);
-    shift_label(nodes, labels, at + k, p)
-}
-
-// A record of kind 4: the label to node u.
-pub(crate) fn label_to_node(
-    sheet: &[u8],
-    n: usize,
-    ends: usize,
+    view: View,
     holders: &[u16; 4160],
+    nodes: &[i64],
+    labels: &[i64],
+    turned: bool,
     at: usize,
-    nodes: &mut [i64],
-    labels: &mut [i64],
-    u: usize,
-    k: usize,
-    share: u8,
-) -> u8
-    requires { ⌜ PlaceAsked (now sheet) n ends at u k share ⌝ }
+    step: Record,
+) -> i64
+    requires { ⌜ Viewed (now sheet) view × PlaceAsked (now sheet) at (step .node) (step .index) (step .share) ⌝ }
     requires { ⌜ Holders (now sheet) (now holders) ⌝ }
-    requires { ⌜ LabelFit (now sheet) (now nodes) (now labels) ⌝ }
-    ensures { λ r. ⌜ labelMove r (now (nodes .exit)) (now (labels .exit)) ≡ labelMoved (now (nodes .entry)) (now (labels .entry)) (at + k) (negℤ (labelAmount (instanceOf (now (sheet .entry))) (now (labels .entry)) (at + k) share)) ⌝ }
+    requires { ⌜ NodeFits (now sheet) (now nodes) × NodeFits (now sheet) (now labels) ⌝ }
+    ensures { λ r. ⌜ (r ≡ labelGiven (instanceOf (now (sheet .entry))) (now (nodes .entry)) (now (labels .entry)) turned (step .node) (at + step .index) (step .share)) × (natAbs r ≤ 2 ^ 41) ⌝ }
 {
-    let p = label_amount(sheet, n, ends, holders, at, labels, u, k, share);
-    shift_label(nodes, labels, at + k, minus(0, p))
+    if turned {
+        minus(
+            0,
+            label_amount(sheet, view, holders, labels, at + step.index, step.share),
+        )
+    } else {
+        node_amount(sheet, nodes, at, step)
+    }
 }

@@ -5,7 +5,7 @@ mod edge_message;
 mod edge_record;
 mod filling;
 mod incumbent;
-mod index;
+mod indexes;
 mod label_message;
 mod lent;
 mod list;
@@ -16,7 +16,7 @@ mod round_record;
 mod rounding;
 mod rows;
 mod turn;
-mod world;
+mod view;
 
 pub use answers::Answer;
 pub use answers::Report;

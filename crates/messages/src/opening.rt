@@ -2,20 +2,22 @@
 use crate::filling::fill_none;
 use crate::filling::fill_prices;
 use crate::filling::fill_zero;
+use crate::view::COST_LIMIT;
+use crate::view::view_of;
 use instance::Layout;
 use instance::read;
 use instance::refusal::BUFFER_LENGTH;
 use instance::refusal::NONE;
 ghost use mathlib.Core.Path.{_≡_};
 ghost use mathlib.Core.Bool.{_&&_};
-ghost use Prim.Native.Nat.{_+_, _*_, _^_, _<_};
+ghost use Prim.Native.Nat.{_+_, _*_, _≤_};
 ghost use lib.Dec.{eqb};
 ghost use lib.ListN.{length, replicate};
 ghost use lib.IntN.{pos};
 ghost use Rattle.integers.specs.Places.{tabulate};
 ghost use Rattle.instance.specs.Bytes.{priceAt};
 ghost use Rattle.rules.specs.Calls.{openOf};
-ghost use Rattle.messages.specs.World.{lent, opens};
+ghost use Rattle.messages.specs.Lent.{lent, opens};
 
 // Four lengths against what they should be.
 pub(crate) fn lengths_agree(
@@ -39,25 +41,25 @@ pub(crate) fn lengths_agree(
     incumbent == layout.nodes
 }
 
-// The node prices from `unary` on, the edge prices from `pairwise` on, label costs of 0, and no matching.
+// The node prices from `prices` on, the edge prices from `cells` on, label costs of 0, and no matching.
 fn fill(
     sheet: &[u8],
-    unary: usize,
-    pairwise: usize,
+    prices: usize,
+    cells: usize,
     nodes: &mut [i64],
     labels: &mut [i64],
     edges: &mut [i64],
     incumbent: &mut [u8],
 )
-    requires { ⌜ (unary + 4 * length (now nodes) < 2 ^ 64) × (pairwise + 4 * length (now edges) < 2 ^ 64) ⌝ }
-    ensures { λ _. ⌜ now (nodes .exit) ≡ tabulate (length (now (nodes .entry))) (λ i. priceAt (now (sheet .entry)) (unary + 4 * i)) ⌝ }
+    requires { ⌜ (prices + 4 * length (now nodes) ≤ length (now sheet)) × (cells + 4 * length (now edges) ≤ length (now sheet)) ⌝ }
+    ensures { λ _. ⌜ now (nodes .exit) ≡ tabulate (length (now (nodes .entry))) (λ i. priceAt (now (sheet .entry)) (prices + 4 * i)) ⌝ }
     ensures { λ _. ⌜ now (labels .exit) ≡ replicate (length (now (labels .entry))) (pos 0) ⌝ }
-    ensures { λ _. ⌜ now (edges .exit) ≡ tabulate (length (now (edges .entry))) (λ i. priceAt (now (sheet .entry)) (pairwise + 4 * i)) ⌝ }
+    ensures { λ _. ⌜ now (edges .exit) ≡ tabulate (length (now (edges .entry))) (λ i. priceAt (now (sheet .entry)) (cells + 4 * i)) ⌝ }
     ensures { λ _. ⌜ now (incumbent .exit) ≡ replicate (length (now (incumbent .entry))) 255 ⌝ }
 {
-    fill_prices(sheet, unary, nodes);
+    fill_prices(sheet, prices, nodes);
     fill_zero(labels);
-    fill_prices(sheet, pairwise, edges);
+    fill_prices(sheet, cells, edges);
     fill_none(incumbent);
 }
 
@@ -81,9 +83,16 @@ pub fn open(
         edges.len(),
         incumbent.len(),
     ) {
-        let unary = layout.nodes + layout.positions;
-        let pairwise = layout.nodes + 5 * layout.positions + 2 * layout.edges;
-        fill(sheet, unary, pairwise, nodes, labels, edges, incumbent);
+        let view = view_of(layout, COST_LIMIT);
+        fill(
+            sheet,
+            view.prices,
+            view.cells,
+            nodes,
+            labels,
+            edges,
+            incumbent,
+        );
         NONE
     } else {
         BUFFER_LENGTH

@@ -5,76 +5,23 @@ use crate::incumbent::none_kept;
 use crate::incumbent::price;
 use crate::lent::lent_refusal;
 use crate::rows::minus;
+use crate::view::COST_LIMIT;
+use crate::view::view_of;
 use instance::Layout;
 use instance::read;
 use instance::refusal::BOUND_ABOVE_COST;
 use instance::refusal::NONE;
 ghost use mathlib.Core.Path.{_≡_};
-ghost use mathlib.Core.List.{[]};
 ghost use Prim.Native.Nat.{_*_, _≤_};
 ghost use lib.IntN.{natAbs};
-ghost use Rattle.instance.specs.Sheet.{instanceOf, refusalOf};
 ghost use Rattle.instance.specs.Layout.{layoutOf};
-ghost use Rattle.rules.specs.Costs.{priceOf, Labelling};
-ghost use Rattle.rules.specs.Held.{boundIn};
-ghost use Rattle.rules.specs.Calls.{filmOut, lentRefusal, told, reportOf};
-ghost use Rattle.messages.specs.World.{lent, Fit};
+ghost use Rattle.rules.specs.Calls.{costLimit, lentRefusal, told, reportOf};
+ghost use Rattle.messages.specs.Lent.{lent};
 ghost use Rattle.messages.specs.Answers.{reportedAs, against};
-
-// The bound of costs that were found good.
-fn bound_of(sheet: &[u8], layout: Layout, nodes: &[i64], labels: &[i64], edges: &[i64]) -> i64
-    requires { ⌜ (layout ≡ layoutOf (now sheet)) × (refusalOf (now sheet) ≡ 0) ⌝ }
-    requires { ⌜ Fit (now sheet) (now nodes) (now labels) (now edges) ⌝ }
-    ensures { λ r. ⌜ (r ≡ boundIn (instanceOf (now (sheet .entry))) (lent (now (nodes .entry)) (now (labels .entry)) (now (edges .entry)) [])) × (natAbs r ≤ 384 * filmOut) ⌝ }
-{
-    let n = layout.nodes;
-    let ends = n + 5 * layout.positions;
-    let positions = layout.positions;
-    let known = layout.labels;
-    let count = layout.edges;
-    lower_bound(
-        sheet,
-        n,
-        ends,
-        positions,
-        known,
-        count,
-        nodes,
-        labels,
-        edges,
-    )
-}
-
-// The kept matching's cost on the sheet.
-fn kept_cost(sheet: &[u8], layout: Layout, incumbent: &[u8]) -> i64
-    requires { ⌜ (layout ≡ layoutOf (now sheet)) × (refusalOf (now sheet) ≡ 0) ⌝ }
-    requires { ⌜ Labelling (instanceOf (now sheet)) (now incumbent) ⌝ }
-    ensures { λ r. ⌜ (r ≡ priceOf (instanceOf (now (sheet .entry))) (now (incumbent .entry))) × (natAbs r ≤ 320_000_000) ⌝ }
-{
-    let n = layout.nodes;
-    let positions = layout.positions;
-    let edges = layout.edges;
-    let ends = n + 5 * positions;
-    let prices = n + positions;
-    let cells = ends + 2 * edges;
-    let starts = layout.starts;
-    let tables = layout.tables;
-    price(
-        sheet,
-        n,
-        ends,
-        &starts,
-        &tables,
-        prices,
-        cells,
-        edges,
-        incumbent,
-    )
-}
 
 // A bound beside the cost of what is kept: no bound may exceed it.
 fn answer(bound: i64, cost: i64) -> Report
-    requires { ⌜ (natAbs bound ≤ 384 * filmOut) × (natAbs cost ≤ 320_000_000) ⌝ }
+    requires { ⌜ (natAbs bound ≤ 384 * costLimit) × (natAbs cost ≤ 320_000_000) ⌝ }
     ensures { λ r. ⌜ reportedAs r ≡ against bound cost ⌝ }
 {
     if cost < bound {
@@ -88,21 +35,24 @@ fn answer(bound: i64, cost: i64) -> Report
 fn tell(
     sheet: &[u8],
     layout: Layout,
+    limit: u64,
     nodes: &[i64],
     labels: &[i64],
     edges: &[i64],
     incumbent: &[u8],
 ) -> Report
-    requires { ⌜ layout ≡ layoutOf (now sheet) ⌝ }
-    requires { ⌜ lentRefusal (now sheet) filmOut (lent (now nodes) (now labels) (now edges) (now incumbent)) ≡ 0 ⌝ }
+    requires { ⌜ (layout ≡ layoutOf (now sheet)) × (limit ≤ costLimit) ⌝ }
+    requires { ⌜ lentRefusal (now sheet) limit (lent (now nodes) (now labels) (now edges) (now incumbent)) ≡ 0 ⌝ }
     ensures { λ r. ⌜ reportedAs r ≡ told (now (sheet .entry)) (lent (now (nodes .entry)) (now (labels .entry)) (now (edges .entry)) (now (incumbent .entry))) ⌝ }
 {
-    let bound = bound_of(sheet, layout, nodes, labels, edges);
+    let view = view_of(layout, limit);
+    let bound = lower_bound(sheet, view, nodes, labels, edges);
     if none_kept(incumbent) {
         return Report::Bound(bound);
     }
-    let cost = kept_cost(sheet, layout, incumbent);
-    answer(bound, cost)
+    let starts = layout.starts;
+    let tables = layout.tables;
+    answer(bound, price(sheet, view, &starts, &tables, incumbent))
 }
 
 pub fn report(
@@ -112,12 +62,12 @@ pub fn report(
     edges: &[i64],
     incumbent: &[u8],
 ) -> Report
-    ensures { λ r. ⌜ reportedAs r ≡ reportOf (now (sheet .entry)) filmOut (lent (now (nodes .entry)) (now (labels .entry)) (now (edges .entry)) (now (incumbent .entry))) ⌝ }
+    ensures { λ r. ⌜ reportedAs r ≡ reportOf (now (sheet .entry)) costLimit (lent (now (nodes .entry)) (now (labels .entry)) (now (edges .entry)) (now (incumbent .entry))) ⌝ }
 {
     let layout = read(sheet);
-    let refusal = lent_refusal(sheet, layout, nodes, labels, edges, incumbent);
+    let refusal = lent_refusal(sheet, layout, COST_LIMIT, nodes, labels, edges, incumbent);
     if refusal != NONE {
         return Report::Refused(refusal);
     }
-    tell(sheet, layout, nodes, labels, edges, incumbent)
+    tell(sheet, layout, COST_LIMIT, nodes, labels, edges, incumbent)
 }

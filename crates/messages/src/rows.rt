@@ -3,7 +3,7 @@ use std::num::wrapping_add_u64;
 use std::num::wrapping_sub_u64;
 ghost use mathlib.Core.Path.{_≡_};
 ghost use mathlib.Core.Bool.{true};
-ghost use Prim.Native.Nat.{_^_, _≤_, _<_};
+ghost use Prim.Native.Nat.{_*_, _^_, _≤_, _<_};
 ghost use lib.Dec.{ltb};
 ghost use lib.ListN.{length, getD};
 ghost use lib.IntN.{pos, natAbs, _+ℤ_, _-ℤ_};
@@ -14,7 +14,7 @@ ghost use Rattle.integers.specs.Share.{share, amount};
 ghost use Rattle.integers.specs.Sum.{Within};
 ghost use Rattle.integers.specs.Places.{every};
 ghost use Rattle.integers.specs.Checks.{within};
-ghost use Rattle.rules.specs.Calls.{filmOut};
+ghost use Rattle.rules.specs.Calls.{costLimit};
 
 // The less of two.
 pub(crate) fn smaller(a: i64, b: i64) -> i64
@@ -110,16 +110,6 @@ pub(crate) fn share_of(d: i64, r: u8) -> i64
     d / (r as i64)
 }
 
-// No cost passes this, up or down.
-const LIMIT: i64 = 0x100_0000_0000;
-
-// Whether a cost lies within the limit. The smallest i64 is no special case.
-pub(crate) fn in_range(cost: i64) -> bool
-    ensures { λ r. ⌜ r ≡ within filmOut cost ⌝ }
-{
-    if cost < -LIMIT { false } else { cost <= LIMIT }
-}
-
 // The bits of a cost.
 fn bits_of(cost: i64) -> u64
     ensures { λ r. ⌜ r ≡ ofZ w64 cost ⌝ }
@@ -131,55 +121,71 @@ fn bits_of(cost: i64) -> u64
     }
 }
 
+// Whether a cost lies within the limit. The smallest i64 is no special case.
+pub(crate) fn in_range(cost: i64, limit: u64) -> bool
+    ensures { λ r. ⌜ r ≡ within limit cost ⌝ }
+{
+    let bits = bits_of(cost);
+    if cost < 0 {
+        wrapping_sub_u64(0, bits) <= limit
+    } else {
+        bits <= limit
+    }
+}
+
 // From here on the highest bit is set.
 pub(crate) const OUT: u64 = 0x8000_0000_0000_0000;
 
 // At least `OUT` if a cost passes the limit. Joined by `|`, many costs take one test.
-pub(crate) fn excess(cost: i64) -> u64
-    ensures { λ r. ⌜ ltb r (2 ^ 63) ≡ within filmOut cost ⌝ }
+pub(crate) fn excess(cost: i64, limit: u64) -> u64
+    requires { ⌜ limit ≤ costLimit ⌝ }
+    ensures { λ r. ⌜ ltb r (2 ^ 63) ≡ within limit cost ⌝ }
 {
     let bits = bits_of(cost);
-    wrapping_add_u64(bits, LIMIT as u64) | wrapping_sub_u64(LIMIT as u64, bits)
+    wrapping_add_u64(bits, limit) | wrapping_sub_u64(limit, bits)
 }
 
 // Whether each cost lies within the limit. It does not stop at the first that does not, so that several are tested at a time.
-pub(crate) fn all_in_range(costs: &[i64]) -> bool
-    ensures { λ r. ⌜ r ≡ every (within filmOut) (now (costs .entry)) ⌝ }
+pub(crate) fn all_in_range(costs: &[i64], limit: u64) -> bool
+    requires { ⌜ limit ≤ costLimit ⌝ }
+    ensures { λ r. ⌜ r ≡ every (within limit) (now (costs .entry)) ⌝ }
 {
     let mut all = 0;
     let mut i = 0;
     while i < costs.len() {
-        all = all | excess(costs[i]);
+        all = all | excess(costs[i], limit);
         i += 1;
     }
     all < OUT
 }
 
-// Below 2^40 only if a cost lies within half the limit.
-fn raised(cost: i64) -> u64
-    ensures { λ r. ⌜ (r < 2 ^ 40 → natAbs cost ≤ 2 ^ 39) ⌝ }
+// Below twice `half` only if a cost lies within `half`.
+fn raised(cost: i64, half: u64) -> u64
+    requires { ⌜ half ≤ costLimit ⌝ }
+    ensures { λ r. ⌜ (r < 2 * half → natAbs cost ≤ half) ⌝ }
 {
-    wrapping_add_u64(bits_of(cost), 0x80_0000_0000)
+    wrapping_add_u64(bits_of(cost), half)
 }
 
-// A quick test, which may fail for costs within half the limit as well: if it does not, each cost is, so that two add up to no more than the limit.
-pub(crate) fn all_half(costs: &[i64]) -> bool
-    ensures { λ r. ⌜ (r ≡ true → Within (2 ^ 39) (now (costs .entry))) ⌝ }
+// A quick test, which may fail for costs within `half` as well: if it does not, each cost is, so that two add up to no more than twice that.
+pub(crate) fn all_half(costs: &[i64], half: u64) -> bool
+    requires { ⌜ half ≤ costLimit ⌝ }
+    ensures { λ r. ⌜ (r ≡ true → Within half (now (costs .entry))) ⌝ }
 {
     let mut all = 0;
     let mut i = 0;
     while i < costs.len() {
-        all = all | raised(costs[i]);
+        all = all | raised(costs[i], half);
         i += 1;
     }
-    all < 0x100_0000_0000
+    all < 2 * half
 }
 
 // What the cost at `k` gives against the others of its row: a share of its distance from the least of them, and 0 with no other.
 pub(crate) fn amount_of(row: &[i64], k: usize, share: u8) -> i64
     requires { ⌜ k < length (now row) ⌝ }
     requires { ⌜ 1 ≤ share ⌝ }
-    requires { ⌜ Within filmOut (now row) ⌝ }
+    requires { ⌜ Within costLimit (now row) ⌝ }
     ensures { λ p. ⌜ p ≡ amount (getD (now (row .entry)) k (pos 0)) (without (now (row .entry)) k) share ⌝ }
 {
     if row.len() < 2 {

@@ -9,9 +9,7 @@ use mir.Syntax.{w64}
 use mir.Val.{toZ}
 use Rattle.integers.proofs.Bits.{same}
 use Rattle.instance.specs.Sheet.{instanceOf}
-use Rattle.instance.proofs.LaidOut.{label-known}
 use Rattle.messages.specs.Bounds.{leastLabels}
-use Rattle.messages.proofs.Sight.{proper, label-byte, label-is}
 use Rattle.messages.proofs.LabelLaws.{leasts-none, leasts-turn}
 use native.Mathlib.Omega.{arith}
 use borrow.Author.Needs.{needs}
@@ -19,42 +17,16 @@ use Rattle.messages.proofs.bound.label_leasts.Statement.{statement}
 use Rattle.messages.proofs.bound.label_leasts.Tie as tie
 
 abbrev Inv-loop : tie.InvT-loop
-Inv-loop sheet n ends positions labels least₀ i₀ least i = (i ≤ positions) × (least ≡ leastLabels (instanceOf sheet) labels i)
+Inv-loop sheet view labels least₀ i₀ least i = (i ≤ length labels) × (least ≡ leastLabels (instanceOf sheet) labels i)
 
 abbrev μ-loop : tie.MeasureT-loop
-μ-loop sheet n ends positions labels least₀ i₀ least i = positions - i
-
--- in a turn the place is one of the N, so its byte lies in the sheet
-place : (p : tie.In-loop Inv-loop μ-loop) → p .before .before .before .args .n + p .before .loop .i < length (now (p .before .before .before .args .sheet))
-place p = label-byte (p .before .before .before .pre .0) (omega (arith, p .before .before .before .pre .1 .0))
-
--- where the label is read: it is the place's, and below 64
-module _ (p : tie.After-wide Inv-loop μ-loop) where
-  abbrev head : tie.At-loop Inv-loop μ-loop
-  head = p .before .before .before
-
-  abbrev start : tie.Start Inv-loop μ-loop
-  start = head .before .before
-
-  label : p .wide .result ≡ instanceOf (now (start .args .sheet)) .label (head .loop .i)
-  label = p .wide .ensures .0 ∙ label-is (start .pre .0) (head .loop .i)
-
-  small : p .wide .result < 64
-  small =
-      let k = label-known (proper (start .pre .0)) (head .loop .i) (omega (arith, start .pre .1 .0, p .before .before .loop-test .taken)) in
-      omega (arith, label, proper (start .pre .0) .labelsFew)
+μ-loop sheet view labels least₀ i₀ least i = length labels - i
 
 loop-holds : tie.Need-loop-holds Inv-loop μ-loop
 loop-holds c = (omega arith, leasts-none _ _)
 
-add-wide : tie.Need-add-wide Inv-loop μ-loop
-add-wide c = omega (arith, place c)
-
-shared-slice-read-wide : tie.Need-shared-slice-read-wide Inv-loop μ-loop
-shared-slice-read-wide c = omega (arith, place (c .before))
-
-wide-requires : tie.Need-wide-requires Inv-loop μ-loop
-wide-requires c κs = search needs
+label-at-requires : tie.Need-label-at-requires Inv-loop μ-loop
+label-at-requires c κs = let q = c .before .before .before in (q .pre .0, omega (arith, c .loop-test .taken, q .pre .1 .size))
 
 mul-smaller : tie.Need-mul-smaller Inv-loop μ-loop
 mul-smaller c = omega arith
@@ -63,19 +35,16 @@ shared-slice-copy-out-smaller : tie.Need-shared-slice-copy-out-smaller Inv-loop 
 shared-slice-copy-out-smaller c = omega arith
 
 mul-smaller-2 : tie.Need-mul-smaller-2 Inv-loop μ-loop
-mul-smaller-2 c = omega (arith, small (c .before))
+mul-smaller-2 c = omega (arith, c .before .label-at .ensures .1)
 
 array-copy-out-smaller : tie.Need-array-copy-out-smaller Inv-loop μ-loop
-array-copy-out-smaller c = small (c .before)
-
-smaller-requires : tie.Need-smaller-requires Inv-loop μ-loop
-smaller-requires c κs = search needs
+array-copy-out-smaller c = c .before .label-at .ensures .1
 
 mul-least : tie.Need-mul-least Inv-loop μ-loop
-mul-least c = omega (arith, small (c .before .before .before))
+mul-least c = omega (arith, c .before .before .before .label-at .ensures .1)
 
 array-set-from-least : tie.Need-array-set-from-least Inv-loop μ-loop
-array-set-from-least c = small (c .before .before .before)
+array-set-from-least c = c .before .before .before .label-at .ensures .1
 
 add-i : tie.Need-add-i Inv-loop μ-loop
 add-i c = omega arith
@@ -86,21 +55,21 @@ loop-less c = omega arith
 loop-again : tie.Need-loop-again Inv-loop μ-loop
 loop-again c =
     let p = c .before .before .before in
-    let a = start p .args in
-    let i = head p .loop .i in
-    let x = getD (now (a .labels)) i (pos 0) in
-    let y = getD (head p .loop .least) (p .wide .result) (pos 0) in (
+    let h = p .before .before in
+    let a = h .before .before .args in
+    let x = getD (now (a .labels)) (h .loop .i) (pos 0) in
+    let y = getD (h .loop .least) (p .label-at .result) (pos 0) in (
       omega arith,
-      leasts-turn (instanceOf (now (a .sheet))) (now (a .labels)) (head p .loop .inv .1) (label p) (small p)
+      leasts-turn (instanceOf (now (a .sheet))) (now (a .labels)) (h .loop .inv .1) (p .label-at .ensures .0) (p .label-at .ensures .1)
           (same (c .smaller .result) (c .smaller .ok) ∙ c .smaller .ensures ∙ ap₂ minℤ (same x (c .before .before .smaller-arg .given)) (same y (c .before .smaller-arg2 .given))),
     )
 
 returns : tie.Need-returns Inv-loop μ-loop
 returns c =
-    let q = c .before in
-    let a = q .before .before .args in
-    let e : q .loop .i ≡ a .positions = omega arith in
-    q .loop .inv .1 ∙ ap (leastLabels (instanceOf (now (a .sheet))) (now (a .labels))) e
+    let h = c .before in
+    let q = h .before .before in
+    let e : h .loop .i ≡ length (now (q .args .labels)) = omega arith in
+    h .loop .inv .1 ∙ ap (leastLabels (instanceOf (now (q .args .sheet))) (now (q .args .labels))) (e ∙ q .pre .1 .size)
 
 pub label-leasts-spec : {M : Type 1} → statement M
 label-leasts-spec =
@@ -109,14 +78,12 @@ label-leasts-spec =
     Inv-loop
     μ-loop
     loop-holds
-    add-wide
-    shared-slice-read-wide
-    wide-requires
+    label-at-requires
     mul-smaller
     shared-slice-copy-out-smaller
     mul-smaller-2
     array-copy-out-smaller
-    smaller-requires
+    (λ c κs. search needs)
     mul-least
     array-set-from-least
     add-i

@@ -1,27 +1,27 @@
 -- `label_sum` meets its contract.
 use Prim.Native.Nat.{ℕ, _-_, _≤_}
-use mathlib.Core.Path.{_≡_, refl, ap, _∙_}
+use mathlib.Core.Path.{_≡_, refl, _∙_}
 use lib.ListN.{getD}
 use lib.IntN.{pos}
 use denote.Ref.{now}
 use mir.Syntax.{w64}
 use mir.Val.{toZ}
-use Rattle.integers.specs.Places.{total}
 use Rattle.integers.proofs.Bits.{same}
-use Rattle.messages.proofs.SumLaws.{Added, added-none, added-fits, added-more}
+use Rattle.rules.specs.Calls.{costLimit}
+use Rattle.messages.proofs.SumLaws.{Added, added-none, added-fits, added-more, added-all}
 use native.Mathlib.Omega.{arith}
 use borrow.Author.Needs.{needs}
 use Rattle.messages.proofs.bound.label_sum.Statement.{statement}
 use Rattle.messages.proofs.bound.label_sum.Tie as tie
 
 abbrev Inv-loop : tie.InvT-loop
-Inv-loop least count sum₀ l₀ sum l = (l ≤ count) × Added (λ k. getD least k (pos 0)) (toZ w64 sum) l
+Inv-loop least count sum₀ l₀ sum l = (l ≤ count) × Added costLimit (λ k. getD least k (pos 0)) (toZ w64 sum) l
 
 abbrev μ-loop : tie.MeasureT-loop
 μ-loop least count sum₀ l₀ sum l = count - l
 
 loop-holds : tie.Need-loop-holds Inv-loop μ-loop
-loop-holds c = (omega arith, added-none _)
+loop-holds c = (omega arith, added-none _ _)
 
 mul-plus : tie.Need-mul-plus Inv-loop μ-loop
 mul-plus c = omega arith
@@ -33,7 +33,7 @@ plus-requires : tie.Need-plus-requires Inv-loop μ-loop
 plus-requires c κs =
     let q = c .before .before in
     let x = getD (now (q .before .args .least)) (q .loop .l) (pos 0) in
-    rw (same x (c .plus-arg .given)) (added-fits (q .loop .inv .1) x (q .before .pre .1 (q .loop .l)) (omega arith))
+    rw (same x (c .plus-arg .given)) (added-fits (q .loop .inv .1) x (q .before .pre .1 (q .loop .l)) (omega arith) (omega arith))
 
 add-l : tie.Need-add-l Inv-loop μ-loop
 add-l c = omega arith
@@ -48,10 +48,7 @@ loop-again c =
     (omega arith, rw (same (c .plus .result) (c .plus .ok) ∙ c .plus .ensures, same x (c .before .plus-arg .given)) (added-more (q .loop .inv .1) x (q .before .pre .1 (q .loop .l)) refl))
 
 returns : tie.Need-returns Inv-loop μ-loop
-returns c =
-    let q = c .before in
-    let e : q .loop .l ≡ q .before .args .count = omega arith in
-    q .loop .inv .1 .is ∙ ap (λ (n : ℕ). total n (λ l. getD (now (q .before .args .least)) l (pos 0))) e
+returns c = added-all (c .before .loop .inv .1) (c .before .loop .inv .0) (c .loop-test .left)
 
 pub label-sum-spec : {M : Type 1} → statement M
 label-sum-spec =

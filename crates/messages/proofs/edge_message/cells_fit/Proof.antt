@@ -1,5 +1,6 @@
 -- `cells_fit` meets its contract: halves of the limit add up to no more than it, and else each cell is tested.
 use mathlib.Core.Path.{sym}
+use native.Mathlib.Omega.{arith}
 use borrow.Author.Needs.{needs}
 use lib.ListN.{getD}
 use lib.IntN.{pos}
@@ -9,25 +10,13 @@ use Rattle.messages.proofs.ExcessLaws.{halves-fit}
 use Rattle.messages.proofs.edge_message.cells_fit.Statement.{statement}
 use Rattle.messages.proofs.edge_message.cells_fit.Tie as tie
 
-all-half-requires : tie.Need-all-half-requires
-all-half-requires c κs = search needs
-
-all-half-requires-2 : tie.Need-all-half-requires-2
-all-half-requires-2 c κs = search needs
-
 returns : tie.Need-returns
 returns c =
     let b = c .before .before .before in
     let a = b .before .before .args in
     let v = b .all-half .ensures (c .before .before .if1 .taken) in
-    sym (halves-fit (λ j. getD (now (a .amounts)) (positionIn (a .by-row) (a .width) j) (pos 0)) (now (a .cells)) (c .before .all-half2 .ensures (c .if2 .taken))
+    sym (halves-fit (omega arith) (λ j. getD (now (a .amounts)) (positionIn (a .by-row) (a .width) j) (pos 0)) (now (a .cells)) (c .before .all-half2 .ensures (c .if2 .taken))
     (λ j. v (positionIn (a .by-row) (a .width) j)))
 
-each-cell-fits-requires : tie.Need-each-cell-fits-requires
-each-cell-fits-requires c κs = search needs
-
-returns-2 : tie.Need-returns-2
-returns-2 c = search needs
-
 pub cells-fit-spec : {M : Type 1} → statement M
-cells-fit-spec = tie.close (tie.spec all-half-requires all-half-requires-2 returns each-cell-fits-requires returns-2)
+cells-fit-spec = tie.close (tie.spec (λ c κs. search needs) (λ c κs. search needs) returns (λ c κs. search needs) (λ c. search needs))

@@ -10,9 +10,8 @@ use denote.Ref.{now}
 use mir.Syntax.{w64}
 use mir.Val.{toZ}
 use Rattle.integers.specs.Least.{minℤ}
-use Rattle.integers.proofs.Bits.{same}
-use Rattle.messages.specs.EdgeMessage.{columnLeast}
-use Rattle.messages.proofs.EdgeLaws.{row-within, column-first, column-more}
+use Rattle.integers.proofs.Bits.{same, answer}
+use Rattle.messages.proofs.EdgeLaws.{cell-in, columnLeast, column-first, column-more, column-least}
 use Rattle.messages.proofs.edge_message.column_low.Statement.{statement}
 use Rattle.messages.proofs.edge_message.column_low.Tie as tie
 
@@ -30,7 +29,7 @@ module _ (c : tie.In-loop Inv-loop μ-loop) where
   inside : c .before .loop .at < length (now (q .args .cells))
   inside =
       let p = c .before in
-      omega (arith, row-within (q .args .width) (q .args .height) (now (q .args .cells)) (q .pre .0) (p .loop .r) (q .args .k) (c .loop-test .taken) (q .pre .1), p .loop .inv)
+      omega (arith, cell-in (q .pre .0) (p .loop .r) (q .args .k) (c .loop-test .taken) (q .pre .1), p .loop .inv)
 
   few : c .before .loop .at + q .args .width ≤ 512
   few =
@@ -38,32 +37,11 @@ module _ (c : tie.In-loop Inv-loop μ-loop) where
       let g : p .loop .r ≤ 16 = omega (arith, q .pre .0, c .loop-test .taken) in
       omega (arith, mul-le-mul-right (q .args .width) g, q .pre, p .loop .inv)
 
-mul-best : tie.Need-mul-best Inv-loop μ-loop
-mul-best c = omega (arith, c .pre)
-
-shared-slice-copy-out-best : tie.Need-shared-slice-copy-out-best Inv-loop μ-loop
-shared-slice-copy-out-best c = omega (arith, row-within (c .args .width) (c .args .height) (now (c .args .cells)) (c .pre .0) 0 (c .args .k) (c .pre .0 .high) (c .pre .1))
-
-add-at : tie.Need-add-at Inv-loop μ-loop
-add-at c = omega (arith, c .before .pre)
-
 loop-holds : tie.Need-loop-holds Inv-loop μ-loop
 loop-holds c =
     let q = c .before in
     let l = now (q .args .cells) in
     (omega arith, q .pre .0 .high, omega arith, same (getD l (q .args .k) (pos 0)) (c .best .given) ∙ column-first l (q .args .width) (q .args .k))
-
-less-at-requires : tie.Need-less-at-requires Inv-loop μ-loop
-less-at-requires c κs = inside c
-
-add-at-2 : tie.Need-add-at-2 Inv-loop μ-loop
-add-at-2 c = omega (arith, few (c .before))
-
-add-r : tie.Need-add-r Inv-loop μ-loop
-add-r c = search needs
-
-loop-less : tie.Need-loop-less Inv-loop μ-loop
-loop-less c = search needs
 
 loop-again : tie.Need-loop-again Inv-loop μ-loop
 loop-again c =
@@ -73,7 +51,7 @@ loop-again c =
       omega arith,
       omega arith,
       omega (arith, p .loop .inv),
-      same (c .less-at .result) (c .less-at .ok) ∙ c .less-at .ensures ∙ ap₂ (λ (i : ℕ) (b : ℤ). minℤ (getD l i (pos 0)) b) (p .loop .inv .2) (p .loop .inv .3)
+      answer (c .less-at .ok) (c .less-at .ensures) ∙ ap₂ (λ (i : ℕ) (b : ℤ). minℤ (getD l i (pos 0)) b) (p .loop .inv .2) (p .loop .inv .3)
           ∙ column-more l (q .args .width) (q .args .k) (p .loop .r) (p .loop .inv .0),
     )
 
@@ -82,7 +60,7 @@ returns c =
     let p = c .before in
     let q = p .before .before in
     let e : p .loop .r ≡ q .args .height = omega arith in
-    p .loop .inv .3 ∙ ap (λ (n : ℕ). columnLeast (now (q .args .cells)) (q .args .width) n (q .args .k)) e
+    p .loop .inv .3 ∙ ap (λ (n : ℕ). columnLeast (now (q .args .cells)) (q .args .width) n (q .args .k)) e ∙ column-least (q .pre .0) (q .args .k) (q .pre .1)
 
 pub column-low-spec : {M : Type 1} → statement M
 column-low-spec =
@@ -90,13 +68,13 @@ column-low-spec =
     (tie.spec
     Inv-loop
     μ-loop
-    mul-best
-    shared-slice-copy-out-best
-    add-at
+    (λ c. omega (arith, c .pre))
+    (λ c. omega (arith, cell-in (c .pre .0) 0 (c .args .k) (c .pre .0 .high) (c .pre .1)))
+    (λ c. omega (arith, c .before .pre))
     loop-holds
-    less-at-requires
-    add-at-2
-    add-r
-    loop-less
+    (λ c κs. inside c)
+    (λ c. omega (arith, few (c .before)))
+    (λ c. search needs)
+    (λ c. search needs)
     loop-again
     returns)

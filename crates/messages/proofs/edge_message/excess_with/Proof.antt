@@ -4,7 +4,6 @@ use lib.IntN.{_+ℤ_}
 use mir.Facts.{toZ-ofZ}
 use Rattle.integers.specs.Checks.{within}
 use Rattle.integers.proofs.Parts.{linear, add, abs}
-use Rattle.rules.specs.Calls.{filmOut}
 use borrow.Author.Needs.{needs}
 use Rattle.messages.proofs.edge_message.excess_with.Statement.{statement}
 use Rattle.messages.proofs.edge_message.excess_with.Tie as tie
@@ -15,13 +14,10 @@ add-excess c =
     let p = c .args .amount in
     rw (toZ-ofZ (c .fits .cost), toZ-ofZ (c .fits .amount)) (omega (linear, add x p, abs x, abs p))
 
-excess-requires : tie.Need-excess-requires
-excess-requires c κs = search needs
-
 returns : tie.Need-returns
 returns c =
     let q = c .before in
-    c .excess .ensures ∙ ap (within filmOut) (toZ-ofZ (add-excess q) ∙ ap₂ _+ℤ_ (toZ-ofZ (q .fits .cost)) (toZ-ofZ (q .fits .amount)))
+    c .excess .ensures ∙ ap (within (q .args .limit)) (toZ-ofZ (add-excess q) ∙ ap₂ _+ℤ_ (toZ-ofZ (q .fits .cost)) (toZ-ofZ (q .fits .amount)))
 
 pub excess-with-spec : {M : Type 1} → statement M
-excess-with-spec = tie.close (tie.spec add-excess excess-requires returns)
+excess-with-spec = tie.close (tie.spec add-excess (λ c κs. search needs) returns)

@@ -11,22 +11,10 @@ use Rattle.messages.specs.EdgeMessage.{movedLine}
 use Rattle.messages.proofs.edge_message.move_line.Statement.{statement}
 use Rattle.messages.proofs.edge_message.move_line.Tie as tie
 
-mul-raise-all : tie.Need-mul-raise-all
-mul-raise-all c = search needs
-
-element-copy-out-raise-all : tie.Need-element-copy-out-raise-all
-element-copy-out-raise-all c = search needs
-
 raise-all-requires : tie.Need-raise-all-requires
 raise-all-requires c κs =
     let q = c .before .before .before in
     (q .pre .1 .0, rw (same (getD (now (q .args .amounts)) (q .args .k) (pos 0)) (c .raise-all-arg2 .given)) (q .pre .1 .1 (q .args .k)))
-
-raise-each-requires : tie.Need-raise-each-requires
-raise-each-requires c κs = search needs
-
-same-length : tie.Need-same-length
-same-length c = search needs
 
 returns : tie.Need-returns
 returns c =
@@ -35,9 +23,6 @@ returns c =
     let v = now (q .args .amounts) in
     c .before .raise-all .ensures ∙ ap (λ (z : ℤ). shifted (λ j. z) l) (same (getD v (q .args .k) (pos 0)) (c .before .before .raise-all-arg2 .given))
     ∙ ap (λ (b : Bool). movedLine b (q .args .k) v l) (sym (c .before .before .before .before .if1 .taken))
-
-same-length-2 : tie.Need-same-length-2
-same-length-2 c = search needs
 
 returns-2 : tie.Need-returns-2
 returns-2 c =
@@ -48,11 +33,11 @@ pub move-line-spec : {M : Type 1} → statement M
 move-line-spec =
     tie.close
     (tie.spec
-    mul-raise-all
-    element-copy-out-raise-all
+    (λ c. search needs)
+    (λ c. search needs)
     raise-all-requires
-    raise-each-requires
-    same-length
+    (λ c κs. search needs)
+    (λ c. search needs)
     returns
-    same-length-2
+    (λ c. search needs)
     returns-2)

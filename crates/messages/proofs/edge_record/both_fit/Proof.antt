@@ -1,74 +1,45 @@
 -- `both_fit` meets its contract: the row is tested, and then the table.
-use mathlib.Core.Path.{ap, sym, _∙_}
+use Prim.Native.Nat.{_^_}
+use mathlib.Core.Path.{_≡_, ap, sym, _∙_}
 use mathlib.Core.Bool.{Bool, _&&_}
+use mathlib.Core.List.{List}
+use borrow.Author.Needs.{needs}
+use borrow.Author.Tests.{lt-ltb, le-ltb}
+use lib.Dec.{ltb}
+use lib.ListN.{getD}
+use lib.IntN.{ℤ, pos}
 use denote.Ref.{now}
-use Prim.Native.Nat.{_-_}
 use Rattle.integers.specs.Places.{every}
 use Rattle.integers.specs.Checks.{within}
-use Rattle.integers.specs.Rows.{part}
-use Rattle.rules.specs.Calls.{filmOut}
-use Rattle.messages.specs.EdgeMessage.{movedCells}
-use Rattle.messages.proofs.EdgeRecordLaws.{laid-few, laid-row, laid-cells}
-use borrow.Author.Needs.{needs}
+use Rattle.integers.proofs.Ranges.{shifted}
+use Rattle.messages.specs.EdgeMessage.{movedRow, movedCells}
+use Rattle.messages.proofs.EdgeLaws.{taken-row, taken-within}
 use Rattle.messages.proofs.edge_record.both_fit.Statement.{statement}
 use Rattle.messages.proofs.edge_record.both_fit.Tie as tie
 
-mul-row-fits : tie.Need-mul-row-fits
-mul-row-fits c = search needs
+excess-each-requires : tie.Need-excess-each-requires
+excess-each-requires c κs =
+    let (_, e, m) = c .pre .1 in
+    (c .pre .0 .few, (c .pre .0 .rowRange, (rw e (taken-within (now (c .args .amounts)) (c .pre .1 .0)), m)))
 
-sub-row-fits : tie.Need-sub-row-fits
-sub-row-fits c = search needs
+-- the row's test, and what is answered with the table's
+module _ (c : tie.After-excess-each) where
+  abbrev q : tie.Start
+  q = c .before
 
-part-row-fits-start : tie.Need-part-row-fits-start
-part-row-fits-start c = search needs
+  row-told : ltb (c .excess-each .result) (2 ^ 63) ≡ every (within (q .args .limit)) (movedRow (now (q .args .amounts)) (now (q .args .row)))
+  row-told =
+      let t = every (within (q .args .limit)) in
+      c .excess-each .ensures ∙ ap (λ (l : List ℤ). t (shifted (λ k. getD l k (pos 0)) (now (q .args .row)))) (q .pre .1 .1) ∙ ap t (taken-row (now (q .args .amounts)) (now (q .args .row)) (q .pre .0 .few))
 
-part-row-fits-end : tie.Need-part-row-fits-end
-part-row-fits-end c = search needs
-
-row-fits-requires : tie.Need-row-fits-requires
-row-fits-requires c κs = let q = c .before in (laid-few (q .pre .0), (laid-row (q .pre .0), q .pre .1))
-
-mul-cells-fit : tie.Need-mul-cells-fit
-mul-cells-fit c = search needs
-
-sub-cells-fit : tie.Need-sub-cells-fit
-sub-cells-fit c = search needs
-
-part-cells-fit-start : tie.Need-part-cells-fit-start
-part-cells-fit-start c = search needs
-
-part-cells-fit-end : tie.Need-part-cells-fit-end
-part-cells-fit-end c = search needs
-
-cells-fit-requires : tie.Need-cells-fit-requires
-cells-fit-requires c κs = let q = c .before .before .before .before in (q .pre .0 .shape, (laid-cells (q .pre .0), q .pre .1))
+  abbrev both : Bool → Bool
+  both b = let x = q .args in b && every (within (x .limit)) (movedCells (x .by-row) (x .width) (now (x .amounts)) (now (x .cells)))
 
 returns : tie.Need-returns
-returns c =
-    let f = c .before .before .before in
-    let x = f .before .before .args in
-    let t = every (within filmOut) (movedCells (x .by-row) (x .width) (now (x .amounts)) (part (now (x .edges)) (x .c) (x .d - x .c))) in
-    c .cells-fit .ensures ∙ ap (λ (b : Bool). b && t) (sym (c .before .before .if1 .taken) ∙ f .row-fits .ensures)
+returns c = let p = c .before .before in c .cells-fit .ensures ∙ ap (both p) (sym (lt-ltb (p .excess-each .result) (2 ^ 63) (c .before .if1 .taken)) ∙ row-told p)
 
 returns-2 : tie.Need-returns-2
-returns-2 c =
-    let x = c .before .before .before .args in
-    let t = every (within filmOut) (movedCells (x .by-row) (x .width) (now (x .amounts)) (part (now (x .edges)) (x .c) (x .d - x .c))) in
-    ap (λ (b : Bool). b && t) (sym (c .if1 .left) ∙ c .before .row-fits .ensures)
+returns-2 c = let p = c .before in ap (both p) (sym (le-ltb (p .excess-each .result) (2 ^ 63) (c .if1 .left)) ∙ row-told p)
 
 pub both-fit-spec : {M : Type 1} → statement M
-both-fit-spec =
-    tie.close
-    (tie.spec
-    mul-row-fits
-    sub-row-fits
-    part-row-fits-start
-    part-row-fits-end
-    row-fits-requires
-    mul-cells-fit
-    sub-cells-fit
-    part-cells-fit-start
-    part-cells-fit-end
-    cells-fit-requires
-    returns
-    returns-2)
+both-fit-spec = tie.close (tie.spec excess-each-requires (λ c κs. search needs) returns returns-2)

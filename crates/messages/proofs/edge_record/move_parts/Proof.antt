@@ -1,19 +1,19 @@
 -- `move_parts` meets its contract: both parts are tested, and then both are written.
-use mathlib.Core.Path.{_≡_, sym, ap, _∙_, subst}
+use Prim.Native.Nat.{_^_}
+use mathlib.Core.Path.{sym, ap, _∙_, subst}
 use mathlib.Core.List.{List}
-use Prim.Native.Nat.{_-_, _^_}
-use lib.IntN.{ℤ}
+use borrow.Author.Needs.{needs}
+use lib.ListN.{getD}
+use lib.IntN.{ℤ, pos}
 use denote.Ref.{now}
 use Rattle.integers.specs.Sum.{Within}
-use Rattle.integers.specs.Rows.{part}
-use Rattle.messages.specs.EdgeRecord.{EdgeMove, edgeMove, amountsOf, partsMoved}
-use Rattle.messages.proofs.EdgeRecordLaws.{laid-amounts, parts-both, parts-not}
-use borrow.Author.Needs.{needs}
+use Rattle.integers.proofs.Places.{if-true, if-false}
+use Rattle.integers.proofs.Ranges.{shifted}
+use Rattle.messages.specs.EdgeRecord.{EdgeMove, edgeMove, partsMoved}
+use Rattle.messages.proofs.EdgeLaws.{taken-row, taken-within}
+use Rattle.messages.proofs.EdgeRecordLaws.{amounts-within}
 use Rattle.messages.proofs.edge_record.move_parts.Statement.{statement}
 use Rattle.messages.proofs.edge_record.move_parts.Tie as tie
-
-amounts-of-requires : tie.Need-amounts-of-requires
-amounts-of-requires c κs = search needs
 
 -- the amounts: none passes twice the limit
 module _ (p : tie.After-amounts-of) where
@@ -21,62 +21,63 @@ module _ (p : tie.After-amounts-of) where
   start = p .before .before .before
 
   small : Within (2 ^ 41) (p .amounts-of .result)
-  small = subst (λ (v : List ℤ). Within (2 ^ 41) v) (sym (p .amounts-of .ensures)) (laid-amounts (start .pre .0) (start .args .turned) (start .args .by-row) (start .args .share))
+  small = subst (λ (v : List ℤ). Within (2 ^ 41) v) (sym (p .amounts-of .ensures)) (amounts-within (start .pre .0) (start .args .turned) (start .args .by-row) (start .args .share))
 
   abbrev moved : List ℤ → EdgeMove
-  moved v = let x = start .args in partsMoved v (now (x .nodes)) (now (x .edges)) (x .by-row) (x .width) (x .a) (x .b) (x .c) (x .d)
+  moved v = let x = start .args in partsMoved (x .limit) v (now (x .row)) (now (x .cells)) (x .by-row) (x .width)
 
-  given : moved (p .amounts-of .result) ≡ (let x = start .args in moved (amountsOf (x .turned) (x .by-row) (x .width) (part (now (x .nodes)) (x .a) (x .b - x .a)) (part (now (x .edges)) (x .c) (x .d - x .c)) (x .share)))
-  given = ap moved (p .amounts-of .ensures)
+-- the same negated
+taken-small : (n : tie.After-negated) → Within (2 ^ 41) (n .negated .result)
+taken-small n = let p = n .before .before in subst (λ (v : List ℤ). Within (2 ^ 41) v) (sym (n .negated .ensures)) (taken-within (p .amounts-of .result) (small p))
 
 both-fit-requires : tie.Need-both-fit-requires
-both-fit-requires c κs = let p = c .before .before .before in (start p .pre .0, small p)
+both-fit-requires c κs =
+    let n = c .before .before .before .before in
+    let p = n .before .before in
+    (start p .pre .0, (small p, n .negated .ensures, start p .pre .1 .1))
 
-put-both-requires : tie.Need-put-both-requires
-put-both-requires c κs = let p = c .before .before .before .before .before .before .before .before in (start p .pre .0, small p)
+raise-each-requires : tie.Need-raise-each-requires
+raise-each-requires c κs =
+    let n = c .before .before .before .before .before .before .before .before in
+    let j = start (n .before .before) .pre .0 in
+    (j .few, (j .rowRange, taken-small n))
 
-same-length : tie.Need-same-length
-same-length c = search needs
-
-same-length-2 : tie.Need-same-length-2
-same-length-2 c = search needs
+move-cells-requires : tie.Need-move-cells-requires
+move-cells-requires c κs =
+    let p = c .before .before .before .before .before .before .before .before .before .before .before .before .before .before in
+    let j = start p .pre .0 in
+    (j .shape, (j .cellRange, small p))
 
 returns : tie.Need-returns
+unfolding partsMoved
 returns c =
-    let f = c .before .before .before .before .before .before .before in
-    let p = f .before .before .before .before in
-    let x = start p .args in
-    let w = c .before .before .put-both .ensures in
-    let l = now (x .nodes) in
-    let m = now (x .edges) in
-    (λ j. edgeMove 0 (w .0 j) (w .1 j))
-    ∙ parts-both (p .amounts-of .result) l m (x .by-row) (x .width) (x .a) (x .b) (x .c) (x .d) (sym (f .both-fit .ensures) ∙ c .before .before .before .before .before .before .if1 .taken)
-    ∙ given p
-
-same-length-3 : tie.Need-same-length-3
-same-length-3 c = search needs
-
-same-length-4 : tie.Need-same-length-4
-same-length-4 c = search needs
+    let r = c .before .before .before .before .before in
+    let f = r .before .before .before .before in
+    let n = f .before .before .before .before .before in
+    let p = n .before .before in
+    let row = now (start p .args .row) in
+    let k = r .raise-each .ensures ∙ ap (λ (v : List ℤ). shifted (λ i. getD v i (pos 0)) row) (n .negated .ensures) ∙ taken-row (p .amounts-of .result) row (start p .pre .0 .few) in
+    (λ i. edgeMove 0 (k i) (c .before .move-cells .ensures i)) ∙ sym (if-true _ _ (sym (f .both-fit .ensures) ∙ r .before .before .before .if1 .taken)) ∙ ap (moved p) (p .amounts-of .ensures)
 
 returns-2 : tie.Need-returns-2
+unfolding partsMoved
 returns-2 c =
     let f = c .before in
-    let p = f .before .before .before .before in
-    let x = start p .args in
-    parts-not (p .amounts-of .result) (now (x .nodes)) (now (x .edges)) (x .by-row) (x .width) (x .a) (x .b) (x .c) (x .d) (sym (f .both-fit .ensures) ∙ c .if1 .left)
-    ∙ given p
+    let p = f .before .before .before .before .before .before .before in
+    sym (if-false _ _ (sym (f .both-fit .ensures) ∙ c .if1 .left)) ∙ ap (moved p) (p .amounts-of .ensures)
 
 pub move-parts-spec : {M : Type 1} → statement M
 move-parts-spec =
     tie.close
     (tie.spec
-    amounts-of-requires
+    (λ c κs. search needs)
+    (λ c κs. small (c .before))
     both-fit-requires
-    put-both-requires
-    same-length
-    same-length-2
+    raise-each-requires
+    move-cells-requires
+    (λ c. search needs)
+    (λ c. search needs)
     returns
-    same-length-3
-    same-length-4
+    (λ c. search needs)
+    (λ c. search needs)
     returns-2)

@@ -30,9 +30,6 @@ loop-less c = omega arith
 loop-again : tie.Need-loop-again Inv-loop μ-loop
 loop-again c = fill-more (λ k. 255) 0 (c .before .loop .inv) (omega arith)
 
-same-length : tie.Need-same-length Inv-loop μ-loop
-same-length c = search needs
-
 returns : tie.Need-returns Inv-loop μ-loop
 returns c = fill-all (λ k. 255) (c .before .loop .inv) (omega arith) ∙ tabulate-same (length (now (c .before .before .args .incumbent))) 255
 
@@ -47,5 +44,5 @@ fill-none-spec =
     add-i
     loop-less
     loop-again
-    same-length
+    (λ c. search needs)
     returns)

@@ -34,9 +34,6 @@ loop-less c = omega arith
 loop-again : tie.Need-loop-again Inv-loop μ-loop
 loop-again c = fill-more (λ k. pos 0) (pos 0) (c .before .loop .inv) (omega arith)
 
-same-length : tie.Need-same-length Inv-loop μ-loop
-same-length c = search needs
-
 returns : tie.Need-returns Inv-loop μ-loop
 returns c = fill-all (λ k. pos 0) (c .before .loop .inv) (omega arith) ∙ tabulate-same (length (now (c .before .before .args .costs))) (pos 0)
 
@@ -52,5 +49,5 @@ fill-zero-spec =
     add-i
     loop-less
     loop-again
-    same-length
+    (λ c. search needs)
     returns)

@@ -7,24 +7,12 @@ use borrow.Author.Needs.{needs}
 use Rattle.messages.proofs.incumbent.adopt.Statement.{statement}
 use Rattle.messages.proofs.incumbent.adopt.Tie as tie
 
-replaces-requires : tie.Need-replaces-requires
-replaces-requires c κs = search needs
-
-copy-requires : tie.Need-copy-requires
-copy-requires c κs = search needs
-
-same-length : tie.Need-same-length
-same-length c = search needs
-
 returns : tie.Need-returns
 returns c =
     let p = c .before .before .before .before in
     let q = p .before .before .before .before .before .before in
     c .before .before .copy .ensures
     ∙ adopted-new (instanceOf (now (q .args .sheet))) (now (q .args .x)) (now (q .args .incumbent)) (sym (p .before .replaces .ensures) ∙ p .if1 .taken)
-
-same-length-2 : tie.Need-same-length-2
-same-length-2 c = search needs
 
 returns-2 : tie.Need-returns-2
 returns-2 c =
@@ -34,4 +22,4 @@ returns-2 c =
 pub adopt-spec : {M : Type 1} → statement M
 adopt-spec =
     tie.close
-    (tie.spec replaces-requires copy-requires same-length returns same-length-2 returns-2)
+    (tie.spec (λ c κs. search needs) (λ c κs. search needs) (λ c. search needs) returns (λ c. search needs) returns-2)

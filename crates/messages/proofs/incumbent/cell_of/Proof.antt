@@ -1,145 +1,112 @@
--- `cell_of` meets its contract: the two ends, and the cell at their positions.
-use Prim.Native.Nat.{ℕ, _+_, _*_, _<_, _≤_}
-use mathlib.Core.Path.{_≡_, ap, ap₂, _∙_}
+-- `cell_of` meets its contract: the row of the lower end's position, and the higher end's place in it.
+use Prim.Native.Nat.{ℕ, _+_, _*_, _≤_, _<_}
+use mathlib.Core.Path.{_≡_, ap, ap₂, subst, sym, _∙_}
+use mathlib.Core.List.{List}
 use lib.ListN.{length, getD}
 use denote.Ref.{now}
+use Rattle.instance.specs.Instance.{Instance, edgeCells}
 use Rattle.instance.specs.Sheet.{instanceOf}
-use Rattle.messages.specs.World.{Seen}
-use Rattle.messages.proofs.Sight.{whole, proper, node-byte, end-bytes, low-is, high-is}
-use Rattle.messages.proofs.IncumbentLaws.{allStarts, edges-seen, tables-long, low-node, high-node, table-start, cell-is, bytes-fit}
+use Rattle.rules.specs.Costs.{chosenCell}
+use Rattle.rules.proofs.Places.{cell-lt}
+use Rattle.messages.proofs.SheetLaws.{proper, edges-few}
+use Rattle.messages.proofs.IncumbentLaws.{cell-is}
+use native.Mathlib.Nat.{mul-le-mul}
 use native.Mathlib.Omega.{arith}
 use borrow.Author.Needs.{needs}
 use Rattle.messages.proofs.incumbent.cell_of.Statement.{statement}
 use Rattle.messages.proofs.incumbent.cell_of.Tie as tie
 
--- at the start
-seen : (q : tie.Start) → Seen (now (q .args .sheet)) (instanceOf (now (q .args .sheet)) .nodeCount) (q .args .ends) (allStarts (now (q .args .sheet))) (now (q .args .tables))
-seen q = edges-seen (q .pre .0)
+module _ (q : tie.Start) where
+  abbrev s : List ℕ
+  s = now (q .args .sheet)
 
-there : (q : tie.Start) → q .args .e < instanceOf (now (q .args .sheet)) .edgeCount
-there q = q .pre .1 .1
+  there : q .args .e < instanceOf s .edgeCount
+  there = omega (arith, q .pre .1 .1, q .pre .0 .0 .edges)
 
-few : (q : tie.Start) → q .args .e < 256
-few q = omega (arith, there q, proper (seen q .known) .edgesFew)
+  few : q .args .e < 256
+  few = omega (arith, q .pre .1 .1, edges-few (q .pre .0 .0))
 
-inside : (q : tie.Start) → q .args .ends + 2 * q .args .e + 1 < length (now (q .args .sheet))
-inside q = end-bytes (seen q .known) (there q)
+  cell : chosenCell (instanceOf s) (now (q .args .x)) (q .args .e) < edgeCells (instanceOf s)
+  cell = cell-lt (instanceOf s) (proper s (q .pre .0 .0 .readable)) (q .pre .1 .0) there
 
-room : (q : tie.Start) → q .args .ends + 2 * q .args .e + 1 < 22_096
-room q = omega (arith, inside q, whole (seen q .known) .short)
+-- all that is read
+module _ (c : tie.After-wide2) where
+  abbrev row : tie.After-wide
+  row = c .before .before
 
-start : (q : tie.Start) → getD (now (q .args .tables)) (q .args .e) 0 ≤ 4_096
-start q = table-start (seen q) (there q)
+  abbrev size : tie.After-degree-of
+  size = row .before .before
 
--- with the two ends read
-low : (p : tie.After-wide2) → p .before .before .wide .result ≡ instanceOf (now (p .before .before .before .before .before .before .args .sheet)) .low (p .before .before .before .before .before .before .args .e)
-low p = let q = p .before .before .before .before .before .before in p .before .before .wide .ensures .0 ∙ low-is (seen q .known) (q .args .e)
+  abbrev high : tie.After-high-end
+  high = size .before .before
 
-high : (p : tie.After-wide2) → p .wide2 .result ≡ instanceOf (now (p .before .before .before .before .before .before .args .sheet)) .high (p .before .before .before .before .before .before .args .e)
-high p = let q = p .before .before .before .before .before .before in p .wide2 .ensures .0 ∙ high-is (seen q .known) (q .args .e)
+  abbrev low : tie.After-low-end
+  low = high .before
 
-high-byte : (p : tie.After-wide2) → p .wide2 .result < length (now (p .before .before .before .before .before .before .args .sheet))
-high-byte p = let q = p .before .before .before .before .before .before in rw (high p) (node-byte (seen q .known) (high-node (seen q) (there q)))
+  abbrev start : tie.Start
+  start = low .before .before .before
 
-high-position : (p : tie.After-wide2) → p .wide2 .result < length (now (p .before .before .before .before .before .before .args .x))
-high-position p = let q = p .before .before .before .before .before .before in omega (arith, high p, high-node (seen q) (there q), q .pre .1 .0 .size, seen q .known .nodes)
+  abbrev found : ℕ
+  found = getD (now (start .args .tables)) (start .args .e) 0 + (size .degree-of .result * row .wide .result + c .wide2 .result)
 
-low-position : (p : tie.After-wide2) → p .before .before .wide .result < length (now (p .before .before .before .before .before .before .args .x))
-low-position p = let q = p .before .before .before .before .before .before in omega (arith, low p, low-node (seen q) (there q), q .pre .1 .0 .size, seen q .known .nodes)
+  is : found ≡ chosenCell (instanceOf (s start)) (now (start .args .x)) (start .args .e)
+  is =
+      ap₂ (λ (a b : ℕ). getD (now (start .args .tables)) (start .args .e) 0 + (size .degree-of .result * a + b)) (row .wide .ensures .0) (c .wide2 .ensures .0)
+      ∙ cell-is (s start) (start .pre .0 .0 .readable) (start .pre .0 .1) (now (start .args .x)) (there start) (low .low-end .ensures .0) (high .high-end .ensures .0) (size .degree-of .ensures .0)
 
-product : (c : tie.After-wide5) → c .before .before .before .before .wide3 .result * c .before .before .wide4 .result + c .wide5 .result < 65_536
-product c = bytes-fit (c .before .before .before .before .wide3 .result) (c .before .before .wide4 .result) (c .wide5 .result) (c .before .before .before .before .wide3 .ensures .1) (c .before .before .wide4 .ensures .1) (c .wide5 .ensures .1)
+  inside : found < edgeCells (instanceOf (s start))
+  inside = subst (λ (z : ℕ). z < edgeCells (instanceOf (s start))) (sym is) (cell start)
 
-mul-wide : tie.Need-mul-wide
-mul-wide c = let q = c .before .before in omega (arith, room q)
+  small : found < 4_096
+  small = omega (arith, inside, proper (s start) (start .pre .0 .0 .readable) .cellsFew)
 
-add-wide : tie.Need-add-wide
-add-wide c = let q = c .before .before in omega (arith, room q)
+low-end-requires : tie.Need-low-end-requires
+low-end-requires c κs = let q = c .before .before in (q .pre .0 .0, q .pre .1 .1)
 
-shared-slice-read-wide : tie.Need-shared-slice-read-wide
-shared-slice-read-wide c = let q = c .before .before .before in omega (arith, inside q)
-
-wide-requires : tie.Need-wide-requires
-wide-requires c κs = search needs
-
-mul-wide-2 : tie.Need-mul-wide-2
-mul-wide-2 c = let q = c .before .before .before .before in omega (arith, room q)
-
-add-wide-2 : tie.Need-add-wide-2
-add-wide-2 c = let q = c .before .before .before .before in omega (arith, room q)
-
-add-wide-3 : tie.Need-add-wide-3
-add-wide-3 c = let q = c .before .before .before .before in omega (arith, room q)
-
-shared-slice-read-wide-2 : tie.Need-shared-slice-read-wide-2
-shared-slice-read-wide-2 c = let q = c .before .before .before .before .before in omega (arith, inside q)
-
-wide-requires-2 : tie.Need-wide-requires-2
-wide-requires-2 c κs = search needs
+high-end-requires : tie.Need-high-end-requires
+high-end-requires c κs = let q = c .before .before .before in (q .pre .0 .0, q .pre .1 .1)
 
 mul-result : tie.Need-mul-result
-mul-result c = let q = c .before .before .before .before .before .before in omega (arith, few q)
+mul-result c = omega (arith, few (c .before .before .before .before))
 
 element-copy-out-result : tie.Need-element-copy-out-result
-element-copy-out-result c = let q = c .before .before .before .before .before .before in omega (arith, few q, tables-long (seen q))
+element-copy-out-result c = few (c .before .before .before .before)
 
-shared-slice-read-wide-3 : tie.Need-shared-slice-read-wide-3
-shared-slice-read-wide-3 c = high-byte (c .before .before)
+degree-of-requires : tie.Need-degree-of-requires
+degree-of-requires c κs = let h = c .before in (h .before .before .before .before .pre .0 .0 .readable, h .high-end .ensures .1)
 
-wide-requires-3 : tie.Need-wide-requires-3
-wide-requires-3 c κs = search needs
-
-shared-slice-read-wide-4 : tie.Need-shared-slice-read-wide-4
-shared-slice-read-wide-4 c = low-position (c .before .before .before .before)
-
-wide-requires-4 : tie.Need-wide-requires-4
-wide-requires-4 c κs = search needs
+shared-slice-read-wide : tie.Need-shared-slice-read-wide
+shared-slice-read-wide c = let l = c .before .before .before .before in omega (arith, l .low-end .ensures .1, l .before .before .before .pre .1 .0 .size)
 
 mul-result-2 : tie.Need-mul-result-2
-mul-result-2 c = omega (arith, bytes-fit (c .before .before .wide3 .result) (c .wide4 .result) 0 (c .before .before .wide3 .ensures .1) (c .wide4 .ensures .1) (omega arith))
+mul-result-2 c = let d = c .before .before in omega (arith, mul-le-mul {n₁ = d .degree-of .result} {m₁ = c .wide .result} {n₂ = 16} {m₂ = 255} (d .degree-of .ensures .1) (omega (arith, c .wide .ensures .1)))
 
-shared-slice-read-wide-5 : tie.Need-shared-slice-read-wide-5
-shared-slice-read-wide-5 c = high-position (c .before .before .before .before .before .before)
-
-wide-requires-5 : tie.Need-wide-requires-5
-wide-requires-5 c κs = search needs
+shared-slice-read-wide-2 : tie.Need-shared-slice-read-wide-2
+shared-slice-read-wide-2 c = let h = c .before .before .before .before .before in omega (arith, h .high-end .ensures .1, h .before .before .before .before .pre .1 .0 .size)
 
 add-result : tie.Need-add-result
-add-result c = omega (arith, product c)
+add-result c = omega (arith, small c)
 
 add-result-2 : tie.Need-add-result-2
-add-result-2 c = omega (arith, product c, start (c .before .before .before .before .before .before .before .before .before .before .before .before .before))
+add-result-2 c = omega (arith, small c)
 
 returns : tie.Need-returns
-returns c =
-    let p = c .before .before .before .before .before .before .before in
-    let q = p .before .before .before .before .before .before in
-    let T = getD (now (q .args .tables)) (q .args .e) 0 in
-    ap (λ (z : ℕ). T + z) (ap₂ _+_ (ap₂ _*_ (c .before .before .before .before .wide3 .ensures .0) (c .before .before .wide4 .ensures .0)) (c .wide5 .ensures .0))
-    ∙ cell-is (seen q) (there q) (now (q .args .x)) (low p) (high p)
+returns c = (is c, inside c)
 
 pub cell-of-spec : {M : Type 1} → statement M
 cell-of-spec =
     tie.close
     (tie.spec
-    mul-wide
-    add-wide
-    shared-slice-read-wide
-    wide-requires
-    mul-wide-2
-    add-wide-2
-    add-wide-3
-    shared-slice-read-wide-2
-    wide-requires-2
+    low-end-requires
+    high-end-requires
     mul-result
     element-copy-out-result
-    shared-slice-read-wide-3
-    wide-requires-3
-    shared-slice-read-wide-4
-    wide-requires-4
+    degree-of-requires
+    shared-slice-read-wide
+    (λ c κs. search needs)
     mul-result-2
-    shared-slice-read-wide-5
-    wide-requires-5
+    shared-slice-read-wide-2
+    (λ c κs. search needs)
     add-result
     add-result-2
     returns)

@@ -1,8 +1,8 @@
 -- `edge_part` meets its contract: after e turns the sum is that of the first e edges.
-use Prim.Native.Nat.{ℕ, _-_, _≤_}
-use mathlib.Core.Path.{ap, _∙_}
+use Prim.Native.Nat.{ℕ, _+_, _-_, _*_, _≤_, _<_}
+use mathlib.Core.Path.{_≡_, sym, ap, _∙_}
 use mathlib.Core.List.{List}
-use lib.IntN.{_+ℤ_}
+use lib.IntN.{_+ℤ_, natAbs}
 use denote.Ref.{now}
 use mir.Syntax.{w64}
 use mir.Val.{toZ, SFits}
@@ -10,45 +10,64 @@ use mir.Facts.{toZ-ofZ}
 use Rattle.integers.proofs.Bits.{same}
 use Rattle.instance.specs.Sheet.{instanceOf}
 use Rattle.rules.specs.Costs.{chosenCell}
-use Rattle.rules.proofs.Places.{cell-lt}
-use Rattle.messages.proofs.Sight.{proper}
-use Rattle.messages.proofs.IncumbentLaws.{SumTurn, sum-none, sum-fits, sum-more, sum-done}
+use Rattle.messages.proofs.SheetLaws.{whole, proper, edges-few, edge-price-here}
+use Rattle.messages.proofs.SumLaws.{Added, added-none, added-fits, added-more, added-all}
 use native.Mathlib.Omega.{arith}
+use borrow.Author.Needs.{needs}
 use Rattle.messages.proofs.incumbent.edge_part.Statement.{statement}
 use Rattle.messages.proofs.incumbent.edge_part.Tie as tie
 
 abbrev Inv-loop : tie.InvT-loop
-Inv-loop sheet ends tables prices edges x sum₀ e₀ sum e = SumTurn (λ d. instanceOf sheet .edgePrice (chosenCell (instanceOf sheet) x d)) edges (toZ w64 sum) e
+Inv-loop sheet view tables x count sum₀ e₀ sum e = (e ≤ count) × Added 1_000_000 (λ d. instanceOf sheet .edgePrice (chosenCell (instanceOf sheet) x d)) (toZ w64 sum) e
 
 abbrev μ-loop : tie.MeasureT-loop
-μ-loop sheet ends tables prices edges x sum₀ e₀ sum e = edges - e
+μ-loop sheet view tables x count sum₀ e₀ sum e = count - e
+
+-- in a turn, the cell found
+module _ (p : tie.After-cell-of Inv-loop μ-loop) where
+  abbrev head : tie.At-loop Inv-loop μ-loop
+  head = p .before .before
+
+  abbrev start : tie.Start Inv-loop μ-loop
+  start = head .before .before .before
+
+  abbrev s : List ℕ
+  s = now (start .args .sheet)
+
+  room : start .args .view .cells + 4 * p .cell-of .result + 4 ≤ 22_096
+  room = omega (arith, edge-price-here (start .pre .0 .0) (p .cell-of .ensures .1) .0, whole s (start .pre .0 .0 .readable) .short)
+
+-- the price that was read
+module _ (c : tie.After-price-at Inv-loop μ-loop) where
+  abbrev cell : tie.After-cell-of Inv-loop μ-loop
+  cell = c .before .before
+
+  there : c .price-at .result ≡ instanceOf (s cell) .edgePrice (cell .cell-of .result)
+  there = c .price-at .ensures ∙ edge-price-here (start cell .pre .0 .0) (cell .cell-of .ensures .1) .1
+
+  small : natAbs (c .price-at .result) ≤ 1_000_000
+  small = rw there (proper (s cell) (start cell .pre .0 .0 .readable) .edgePriced (cell .cell-of .result) (cell .cell-of .ensures .1))
+
+  fits : SFits w64 (toZ w64 (head cell .loop .sum) +ℤ c .price-at .result)
+  fits = added-fits (head cell .loop .inv .1) (c .price-at .result) small (omega arith) (omega (arith, cell .before .loop-test .taken, edges-few (start cell .pre .0 .0)))
 
 loop-holds : tie.Need-loop-holds Inv-loop μ-loop
-loop-holds c = sum-none _ _
-
-abbrev S : tie.In-loop Inv-loop μ-loop → List ℕ
-S p = now (p .before .before .before .before .args .sheet)
-
-few : (q : tie.Start Inv-loop μ-loop) → q .args .edges ≤ 256
-few q = omega (arith, q .pre .1 .0 .1, proper (q .pre .0 .known) .edgesFew)
-
--- the sum with the price of this turn
-fits : (c : tie.After-edge-price Inv-loop μ-loop) → SFits w64 (toZ w64 (c .before .before .before .loop .sum) +ℤ c .edge-price .result)
-fits c =
-    let p = c .before .before in
-    sum-fits (p .before .loop .inv) (c .edge-price .result) (few (p .before .before .before .before)) (c .edge-price .ensures .1)
+loop-holds c = (omega arith, added-none _ _)
 
 cell-of-requires : tie.Need-cell-of-requires Inv-loop μ-loop
-cell-of-requires c κs = let q = c .before .before .before .before in (q .pre .0, (q .pre .1 .1, omega (arith, c .loop-test .taken, q .pre .1 .0 .1)))
+cell-of-requires c κs = let q = c .before .before .before .before in (q .pre .0, (q .pre .1, c .loop-test .taken))
 
-edge-price-requires : tie.Need-edge-price-requires Inv-loop μ-loop
-edge-price-requires c κs =
-    let p = c .before in
-    let q = p .before .before .before .before in
-    (q .pre .0 .known .readable, q .pre .1 .0 .0, rw (c .cell-of .ensures) (cell-lt (instanceOf (S p)) (proper (q .pre .0 .known)) (q .pre .1 .1) (omega (arith, p .loop-test .taken, q .pre .1 .0 .1))))
+mul-price-at : tie.Need-mul-price-at Inv-loop μ-loop
+mul-price-at c = omega (arith, room c)
+
+add-price-at : tie.Need-add-price-at Inv-loop μ-loop
+add-price-at c = omega (arith, room (c .before))
+
+price-at-requires : tie.Need-price-at-requires Inv-loop μ-loop
+price-at-requires c κs = let p = c .before in edge-price-here (start p .pre .0 .0) (p .cell-of .ensures .1) .0
 
 add-sum : tie.Need-add-sum Inv-loop μ-loop
-add-sum c = rw (same (c .edge-price .result) (c .edge-price .ok)) (fits c)
+add-sum c = rw (same (c .price-at .result) (c .price-at .ok)) (fits c)
 
 add-e : tie.Need-add-e Inv-loop μ-loop
 add-e c = omega arith
@@ -58,15 +77,14 @@ loop-less c = omega arith
 
 loop-again : tie.Need-loop-again Inv-loop μ-loop
 loop-again c =
-    let p = c .before .before in
-    rw (same (c .edge-price .result) (c .edge-price .ok), toZ-ofZ (fits c))
-    (sum-more (p .before .loop .inv) (c .edge-price .result) (p .loop-test .taken) (c .edge-price .ensures .0 ∙ ap (instanceOf (S p) .edgePrice) (c .before .cell-of .ensures)) (c .edge-price .ensures .1))
+    let p = cell c in
+    (omega arith, rw (same (c .price-at .result) (c .price-at .ok), toZ-ofZ (fits c)) (added-more (head p .loop .inv .1) (c .price-at .result) (small c) (there c ∙ ap (instanceOf (s p) .edgePrice) (p .cell-of .ensures .0))))
 
 returns : tie.Need-returns Inv-loop μ-loop
 returns c =
-    let q = c .before in
-    let d = sum-done (q .loop .inv) (c .loop-test .left) in
-    (d .0, omega (arith, d .1, few (q .before .before .before)))
+    let i = c .before .loop .inv in
+    let d = added-all (i .1) (i .0) (c .loop-test .left) in
+    (d .0, omega (arith, d .1, edges-few (c .before .before .before .before .pre .0 .0)))
 
 pub edge-part-spec : {M : Type 1} → statement M
 edge-part-spec =
@@ -76,7 +94,9 @@ edge-part-spec =
     μ-loop
     loop-holds
     cell-of-requires
-    edge-price-requires
+    mul-price-at
+    add-price-at
+    price-at-requires
     add-sum
     add-e
     loop-less

@@ -1,101 +1,103 @@
 -- `node_part` meets its contract: after u turns the sum is that of the first u nodes.
-use Prim.Native.Nat.{ℕ, _+_, _-_, _<_}
-use mathlib.Core.Path.{_≡_, ap, _∙_}
+use Prim.Native.Nat.{ℕ, _+_, _-_, _*_, _≤_, _<_}
+use mathlib.Core.Path.{_≡_, sym, ap, _∙_}
 use mathlib.Core.List.{List}
 use lib.ListN.{length, getD}
-use lib.IntN.{_+ℤ_}
+use lib.IntN.{_+ℤ_, natAbs}
 use denote.Ref.{now}
 use mir.Syntax.{w64}
 use mir.Val.{toZ, SFits}
 use mir.Facts.{toZ-ofZ}
 use Rattle.integers.proofs.Bits.{same}
-use Rattle.instance.specs.Instance.{nodeCells}
-use Rattle.instance.specs.Sheet.{instanceOf, endsAt}
+use Rattle.instance.specs.Bytes.{priceAt}
+use Rattle.instance.specs.Instance.{Instance, nodeCells}
+use Rattle.instance.specs.Sheet.{instanceOf}
 use Rattle.rules.specs.Costs.{chosen}
-use Rattle.messages.specs.World.{Seen}
-use Rattle.messages.proofs.Sight.{nodes-few}
-use Rattle.messages.proofs.IncumbentLaws.{allTables, nodes-seen, starts-long, place-is, place-in, start-few, SumTurn, sum-none, sum-fits, sum-more, sum-done}
+use Rattle.messages.proofs.SheetLaws.{whole, proper, nodes-few, node-price-here}
+use Rattle.messages.proofs.SumLaws.{Added, added-none, added-fits, added-more, added-all}
+use Rattle.messages.proofs.IncumbentLaws.{place-is, place-in}
 use native.Mathlib.Omega.{arith}
 use borrow.Author.Needs.{needs}
 use Rattle.messages.proofs.incumbent.node_part.Statement.{statement}
 use Rattle.messages.proofs.incumbent.node_part.Tie as tie
 
 abbrev Inv-loop : tie.InvT-loop
-Inv-loop sheet n starts prices x sum₀ u₀ sum u = SumTurn (λ w. instanceOf sheet .nodePrice (chosen (instanceOf sheet) x w)) n (toZ w64 sum) u
+Inv-loop sheet view starts x n sum₀ u₀ sum u = (u ≤ n) × Added 1_000_000 (λ w. instanceOf sheet .nodePrice (chosen (instanceOf sheet) x w)) (toZ w64 sum) u
 
 abbrev μ-loop : tie.MeasureT-loop
-μ-loop sheet n starts prices x sum₀ u₀ sum u = n - u
-
-loop-holds : tie.Need-loop-holds Inv-loop μ-loop
-loop-holds c = sum-none _ _
+μ-loop sheet view starts x n sum₀ u₀ sum u = n - u
 
 -- in a turn
-abbrev S : tie.In-loop Inv-loop μ-loop → List ℕ
-S p = now (p .before .before .before .before .args .sheet)
+module _ (p : tie.In-loop Inv-loop μ-loop) where
+  abbrev start : tie.Start Inv-loop μ-loop
+  start = p .before .before .before .before
 
-abbrev X : tie.In-loop Inv-loop μ-loop → List ℕ
-X p = now (p .before .before .before .before .args .x)
+  abbrev s : List ℕ
+  s = now (start .args .sheet)
 
-abbrev N : tie.In-loop Inv-loop μ-loop → ℕ
-N p = p .before .before .before .before .args .n
+  abbrev u : ℕ
+  u = p .before .loop .u
 
-abbrev starts : tie.In-loop Inv-loop μ-loop → List ℕ
-starts p = now (p .before .before .before .before .args .starts)
+  abbrev place : ℕ
+  place = getD (now (start .args .starts)) u 0 + getD (now (start .args .x)) u 0
 
-abbrev U : tie.In-loop Inv-loop μ-loop → ℕ
-U p = p .before .loop .u
+  few : u < 64
+  few = omega (arith, p .loop-test .taken, nodes-few (start .pre .0 .0))
 
-seen : (p : tie.In-loop Inv-loop μ-loop) → Seen (S p) (N p) (endsAt (S p)) (starts p) (allTables (S p))
-seen p = nodes-seen (p .before .before .before .before .pre .0)
+  node : u < instanceOf s .nodeCount
+  node = omega (arith, p .loop-test .taken, start .pre .0 .0 .nodes)
 
-few : (p : tie.In-loop Inv-loop μ-loop) → U p < 64
-few p = omega (arith, p .loop-test .taken, nodes-few (seen p .known))
+  placed : place ≡ chosen (instanceOf s) (now (start .args .x)) u
+  placed = place-is s (start .pre .0 .0 .readable) (start .pre .0 .1) (now (start .args .x)) node
 
-long : (p : tie.In-loop Inv-loop μ-loop) → U p < length (X p)
-long p = omega (arith, p .loop-test .taken, seen p .known .nodes, p .before .before .before .before .pre .1 .size)
+  inside : place < nodeCells (instanceOf s)
+  inside = place-in s (start .pre .0 .0 .readable) (start .pre .0 .1) (now (start .args .x)) node (start .pre .1 .within u node)
 
--- the place that the turn reads
-place : (c : tie.After-wide Inv-loop μ-loop) → getD (starts (c .before .before .before)) (U (c .before .before .before)) 0 + c .wide .result ≡ chosen (instanceOf (S (c .before .before .before))) (X (c .before .before .before)) (U (c .before .before .before))
-place c =
-    let p = c .before .before .before in
-    ap (λ (z : ℕ). getD (starts p) (U p) 0 + z) (c .wide .ensures .0) ∙ place-is (seen p) (X p) (p .loop-test .taken)
+  room : start .args .view .prices + 4 * place + 4 ≤ 22_096
+  room = omega (arith, node-price-here (start .pre .0 .0) inside .0, whole s (start .pre .0 .0 .readable) .short)
 
-inside : (c : tie.After-wide Inv-loop μ-loop) → getD (starts (c .before .before .before)) (U (c .before .before .before)) 0 + c .wide .result < nodeCells (instanceOf (S (c .before .before .before)))
-inside c =
-    let p = c .before .before .before in
-    rw (c .wide .ensures .0) (place-in (seen p) (X p) (p .loop-test .taken) (p .before .before .before .before .pre .1 .within (U p) (omega (arith, p .loop-test .taken, seen p .known .nodes))))
+-- the price that was read
+module _ (c : tie.After-price-at Inv-loop μ-loop) where
+  abbrev turn : tie.In-loop Inv-loop μ-loop
+  turn = c .before .before .before .before .before
 
--- and the sum with its price
-fits : (c : tie.After-node-price Inv-loop μ-loop) → SFits w64 (toZ w64 (c .before .before .before .before .before .loop .sum) +ℤ c .node-price .result)
-fits c =
-    let p = c .before .before .before .before in
-    sum-fits (p .before .loop .inv) (c .node-price .result) (omega (arith, nodes-few (seen p .known))) (c .node-price .ensures .1)
+  price : c .price-at .result ≡ instanceOf (s turn) .nodePrice (chosen (instanceOf (s turn)) (now (start turn .args .x)) (u turn))
+  price =
+      c .price-at .ensures ∙ ap (λ (z : ℕ). priceAt (s turn) (start turn .args .view .prices + 4 * (getD (now (start turn .args .starts)) (u turn) 0 + z))) (c .before .before .wide .ensures .0)
+      ∙ node-price-here (start turn .pre .0 .0) (inside turn) .1 ∙ ap (instanceOf (s turn) .nodePrice) (placed turn)
 
-mul-node-price : tie.Need-mul-node-price Inv-loop μ-loop
-mul-node-price c = omega (arith, few c)
+  small : natAbs (c .price-at .result) ≤ 1_000_000
+  small = rw (price, sym (placed turn)) (proper (s turn) (start turn .pre .0 .0 .readable) .nodePriced (place turn) (inside turn))
 
-element-copy-out-node-price : tie.Need-element-copy-out-node-price Inv-loop μ-loop
-element-copy-out-node-price c = omega (arith, few c, starts-long (seen c))
+  fits : SFits w64 (toZ w64 (turn .before .loop .sum) +ℤ c .price-at .result)
+  fits = added-fits (turn .before .loop .inv .1) (c .price-at .result) small (omega arith) (omega (arith, few turn))
+
+loop-holds : tie.Need-loop-holds Inv-loop μ-loop
+loop-holds c = (omega arith, added-none _ _)
+
+mul-price-at : tie.Need-mul-price-at Inv-loop μ-loop
+mul-price-at c = omega (arith, few c)
+
+element-copy-out-price-at : tie.Need-element-copy-out-price-at Inv-loop μ-loop
+element-copy-out-price-at c = few c
 
 shared-slice-read-wide : tie.Need-shared-slice-read-wide Inv-loop μ-loop
-shared-slice-read-wide c = omega (arith, long (c .before .before))
+shared-slice-read-wide c = let p = c .before .before in omega (arith, node p, start p .pre .1 .size)
 
-wide-requires : tie.Need-wide-requires Inv-loop μ-loop
-wide-requires c κs = search needs
+add-price-at : tie.Need-add-price-at Inv-loop μ-loop
+add-price-at c = let p = c .before .before .before in omega (arith, room p, c .wide .ensures .0)
 
-add-node-price : tie.Need-add-node-price Inv-loop μ-loop
-add-node-price c =
-    let p = c .before .before .before in
-    omega (arith, start-few (seen p) (X p) (p .loop-test .taken), c .wide .ensures .1)
+mul-price-at-2 : tie.Need-mul-price-at-2 Inv-loop μ-loop
+mul-price-at-2 c = let p = c .before .before .before in omega (arith, room p, c .wide .ensures .0)
 
-node-price-requires : tie.Need-node-price-requires Inv-loop μ-loop
-node-price-requires c κs =
-    let p = c .before .before .before in
-    let w = p .before .before .before .before .pre .0 in
-    (w .readable, w .placed, inside c)
+add-price-at-2 : tie.Need-add-price-at-2 Inv-loop μ-loop
+add-price-at-2 c = let w = c .before in let p = w .before .before .before in omega (arith, room p, w .wide .ensures .0)
+
+price-at-requires : tie.Need-price-at-requires Inv-loop μ-loop
+price-at-requires c κs = let w = c .before in let p = w .before .before .before in omega (arith, node-price-here (start p .pre .0 .0) (inside p) .0, w .wide .ensures .0)
 
 add-sum : tie.Need-add-sum Inv-loop μ-loop
-add-sum c = rw (same (c .node-price .result) (c .node-price .ok)) (fits c)
+add-sum c = rw (same (c .price-at .result) (c .price-at .ok)) (fits c)
 
 add-u : tie.Need-add-u Inv-loop μ-loop
 add-u c = omega arith
@@ -104,16 +106,13 @@ loop-less : tie.Need-loop-less Inv-loop μ-loop
 loop-less c = omega arith
 
 loop-again : tie.Need-loop-again Inv-loop μ-loop
-loop-again c =
-    let p = c .before .before .before .before in
-    rw (same (c .node-price .result) (c .node-price .ok), toZ-ofZ (fits c))
-    (sum-more (p .before .loop .inv) (c .node-price .result) (p .loop-test .taken) (c .node-price .ensures .0 ∙ ap (instanceOf (S p) .nodePrice) (place (c .before))) (c .node-price .ensures .1))
+loop-again c = (omega arith, rw (same (c .price-at .result) (c .price-at .ok), toZ-ofZ (fits c)) (added-more (turn c .before .loop .inv .1) (c .price-at .result) (small c) (price c)))
 
 returns : tie.Need-returns Inv-loop μ-loop
 returns c =
-    let q = c .before in
-    let d = sum-done (q .loop .inv) (c .loop-test .left) in
-    (d .0, omega (arith, d .1, nodes-few (nodes-seen (q .before .before .before .pre .0) .known)))
+    let i = c .before .loop .inv in
+    let d = added-all (i .1) (i .0) (c .loop-test .left) in
+    (d .0, omega (arith, d .1, nodes-few (c .before .before .before .before .pre .0 .0)))
 
 pub node-part-spec : {M : Type 1} → statement M
 node-part-spec =
@@ -122,12 +121,14 @@ node-part-spec =
     Inv-loop
     μ-loop
     loop-holds
-    mul-node-price
-    element-copy-out-node-price
+    mul-price-at
+    element-copy-out-price-at
     shared-slice-read-wide
-    wide-requires
-    add-node-price
-    node-price-requires
+    (λ c κs. search needs)
+    add-price-at
+    mul-price-at-2
+    add-price-at-2
+    price-at-requires
     add-sum
     add-u
     loop-less

@@ -9,29 +9,23 @@ use borrow.Author.Needs.{needs}
 use Rattle.messages.proofs.incumbent.replaces.Statement.{statement}
 use Rattle.messages.proofs.incumbent.replaces.Tie as tie
 
-none-kept-requires : tie.Need-none-kept-requires
-none-kept-requires c κs = search needs
-
 returns : tie.Need-returns
 returns c =
     let q = c .before .before .before .before .before in
     replaces-none (instanceOf (now (q .args .sheet))) (now (q .args .x)) (now (q .args .old)) (sym (c .before .none-kept .ensures) ∙ c .if1 .taken)
 
-price-requires : tie.Need-price-requires
-price-requires c κs = search needs
-
 price-requires-2 : tie.Need-price-requires-2
 price-requires-2 c κs =
     let q = c .before .before .before .before .before .before in
-    (q .pre .0, (q .pre .1 .0, kept-labelling (instanceOf (now (q .args .sheet))) (q .pre .1 .1 .1 .0 ∙ q .pre .0 .known .nodes) (q .pre .1 .1 .1 .1) (sym (c .before .before .none-kept .ensures) ∙ c .before .if1 .left)))
+    (q .pre .0, kept-labelling (instanceOf (now (q .args .sheet))) (q .pre .1 .1 .0 ∙ q .pre .0 .viewed .nodes) (q .pre .1 .1 .1) (sym (c .before .before .none-kept .ensures) ∙ c .before .if1 .left))
 
 returns-2 : tie.Need-returns-2
 returns-2 c =
     let q = c .before .before .before .before .before .before .before in
     let p = c .before in
-    ap₂ ltZ (same (p .price .result) (p .price .ok) ∙ p .price .ensures) (same (c .price2 .result) (c .price2 .ok) ∙ c .price2 .ensures)
+    ap₂ ltZ (same (p .price .result) (p .price .ok) ∙ p .price .ensures .0) (same (c .price2 .result) (c .price2 .ok) ∙ c .price2 .ensures .0)
     ∙ replaces-kept (instanceOf (now (q .args .sheet))) (now (q .args .x)) (now (q .args .old)) (sym (c .before .before .before .none-kept .ensures) ∙ c .before .before .if1 .left)
 
 pub replaces-spec : {M : Type 1} → statement M
 replaces-spec =
-    tie.close (tie.spec none-kept-requires returns price-requires price-requires-2 returns-2)
+    tie.close (tie.spec (λ c κs. search needs) returns (λ c κs. search needs) price-requires-2 returns-2)

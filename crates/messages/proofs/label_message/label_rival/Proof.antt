@@ -10,7 +10,7 @@ use mir.Val.{toZ}
 use Rattle.integers.specs.Least.{leastFrom}
 use Rattle.integers.specs.Places.{others}
 use Rattle.integers.proofs.Bits.{same}
-use Rattle.messages.specs.Index.{many}
+use Rattle.index.specs.Index.{many}
 use Rattle.messages.proofs.RivalLaws.{rivalIn, rival-none, rival-next}
 use native.Mathlib.Omega.{arith}
 use borrow.Author.Needs.{needs}
@@ -23,27 +23,6 @@ Inv-loop labels holders label own row end best₀ at₀ best at =
 
 abbrev μ-loop : tie.MeasureT-loop
 μ-loop labels holders label own row end best₀ at₀ best at = 65 * label + 1 + many holders label - at
-
-mul-row : tie.Need-mul-row Inv-loop μ-loop
-mul-row c = search needs
-
-add-end : tie.Need-add-end Inv-loop μ-loop
-add-end c = search needs
-
-mul-number : tie.Need-mul-number Inv-loop μ-loop
-mul-number c = search needs
-
-element-copy-out-number : tie.Need-element-copy-out-number Inv-loop μ-loop
-element-copy-out-number c = search needs
-
-number-requires : tie.Need-number-requires Inv-loop μ-loop
-number-requires c κs = search needs
-
-add-end-2 : tie.Need-add-end-2 Inv-loop μ-loop
-add-end-2 c = search needs
-
-add-at : tie.Need-add-at Inv-loop μ-loop
-add-at c = search needs
 
 -- a place of the row
 module _ (p : tie.After-number2 Inv-loop μ-loop) where
@@ -76,23 +55,8 @@ loop-holds c =
     let z : 65 * a .label + 1 - (65 * a .label + 1) ≡ 0 = omega arith in
     (omega arith, omega arith, rival-none f (a .own) (now (a .holders)) (65 * a .label + 1) ∙ ap (rivalIn f (a .own) (now (a .holders)) (65 * a .label + 1)) (sym z))
 
-mul-number-2 : tie.Need-mul-number-2 Inv-loop μ-loop
-mul-number-2 c = search needs
-
-element-copy-out-number-2 : tie.Need-element-copy-out-number-2 Inv-loop μ-loop
-element-copy-out-number-2 c = search needs
-
-number-requires-2 : tie.Need-number-requires-2 Inv-loop μ-loop
-number-requires-2 c κs = search needs
-
 meet-requires : tie.Need-meet-requires Inv-loop μ-loop
 meet-requires c κs = omega (arith, place c, start c .pre .1 (at c - from c) (far c))
-
-add-at-2 : tie.Need-add-at-2 Inv-loop μ-loop
-add-at-2 c = search needs
-
-loop-less : tie.Need-loop-less Inv-loop μ-loop
-loop-less c = search needs
 
 loop-again : tie.Need-loop-again Inv-loop μ-loop
 loop-again c =
@@ -123,19 +87,19 @@ label-rival-spec =
     (tie.spec
     Inv-loop
     μ-loop
-    mul-row
-    add-end
-    mul-number
-    element-copy-out-number
-    number-requires
-    add-end-2
-    add-at
+    (λ c. search needs)
+    (λ c. search needs)
+    (λ c. search needs)
+    (λ c. search needs)
+    (λ c κs. search needs)
+    (λ c. search needs)
+    (λ c. search needs)
     loop-holds
-    mul-number-2
-    element-copy-out-number-2
-    number-requires-2
+    (λ c. search needs)
+    (λ c. search needs)
+    (λ c κs. search needs)
     meet-requires
-    add-at-2
-    loop-less
+    (λ c. search needs)
+    (λ c. search needs)
     loop-again
     returns)

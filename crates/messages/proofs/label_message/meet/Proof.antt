@@ -11,15 +11,6 @@ use borrow.Author.Needs.{needs}
 use Rattle.messages.proofs.label_message.meet.Statement.{statement}
 use Rattle.messages.proofs.label_message.meet.Tie as tie
 
-mul-smaller : tie.Need-mul-smaller
-mul-smaller c = search needs
-
-shared-slice-copy-out-smaller : tie.Need-shared-slice-copy-out-smaller
-shared-slice-copy-out-smaller c = search needs
-
-smaller-requires : tie.Need-smaller-requires
-smaller-requires c κs = search needs
-
 returns : tie.Need-returns
 returns c =
     let a = c .before .args in
@@ -35,4 +26,4 @@ returns-2 c =
 pub meet-spec : {M : Type 1} → statement M
 meet-spec =
     tie.close
-    (tie.spec mul-smaller shared-slice-copy-out-smaller smaller-requires returns returns-2)
+    (tie.spec (λ c. search needs) (λ c. search needs) (λ c κs. search needs) returns returns-2)

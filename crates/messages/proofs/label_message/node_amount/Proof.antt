@@ -10,30 +10,23 @@ use Rattle.integers.specs.Share.{amount}
 use Rattle.integers.proofs.Bits.{same}
 use Rattle.integers.proofs.Rows.{length-part, within-part}
 use Rattle.instance.specs.Sheet.{instanceOf}
-use Rattle.rules.specs.Calls.{filmOut}
-use Rattle.messages.proofs.Sight.{node-byte, degree-is}
-use Rattle.messages.proofs.AmountLaws.{row-in, node-given}
+use Rattle.rules.specs.Calls.{costLimit}
+use Rattle.messages.proofs.LabelMessageLaws.{row-in, node-given}
 use native.Mathlib.Omega.{arith}
 use borrow.Author.Needs.{needs}
 use Rattle.messages.proofs.label_message.node_amount.Statement.{statement}
 use Rattle.messages.proofs.label_message.node_amount.Tie as tie
 
--- the row that was read off the sheet
-row : (c : tie.After-wide) → c .before .before .before .args .at + c .wide .result ≤ length (now (c .before .before .before .args .nodes))
-row c =
-    let q = c .before .before .before in
-    omega (arith, c .wide .ensures .0, degree-is (q .pre .0 .known) (q .args .u), row-in (q .pre .0) (now (q .args .nodes)) (q .pre .1 .0))
+-- the row by the degree that was read
+module _ (c : tie.After-degree-of) where
+  abbrev start : tie.Start
+  start = c .before .before
 
-size : (c : tie.After-wide) → (c .before .before .before .args .at + c .wide .result) - c .before .before .before .args .at ≡ instanceOf (now (c .before .before .before .args .sheet)) .degree (c .before .before .before .args .u)
-size c =
-    let q = c .before .before .before in
-    omega (arith, c .wide .ensures .0, degree-is (q .pre .0 .known) (q .args .u))
+  row : start .args .at + c .degree-of .result ≤ length (now (start .args .nodes))
+  row = omega (arith, c .degree-of .ensures .0, row-in (start .pre .0) (start .pre .1))
 
-shared-slice-read-wide : tie.Need-shared-slice-read-wide
-shared-slice-read-wide c = let q = c .before .before in node-byte (q .pre .0 .known) (q .pre .0 .node)
-
-wide-requires : tie.Need-wide-requires
-wide-requires c κs = search needs
+  size : (start .args .at + c .degree-of .result) - start .args .at ≡ instanceOf (now (start .args .sheet)) .degree (start .args .step .node)
+  size = omega (arith, c .degree-of .ensures .0)
 
 add-to : tie.Need-add-to
 add-to c = omega (arith, row c)
@@ -41,43 +34,35 @@ add-to c = omega (arith, row c)
 mul-amount-of : tie.Need-mul-amount-of
 mul-amount-of c = omega (arith, row c)
 
-sub-amount-of : tie.Need-sub-amount-of
-sub-amount-of c = search needs
-
-part-amount-of-start : tie.Need-part-amount-of-start
-part-amount-of-start c = search needs
-
 part-amount-of-end : tie.Need-part-amount-of-end
 part-amount-of-end c = row c
 
 amount-of-requires : tie.Need-amount-of-requires
 amount-of-requires c κs =
-    let q = c .before .before .before .before in
+    let q = start (c .before) in
     let l = now (q .args .nodes) in
-    rw (size (c .before)) (
-      omega (arith, q .pre .0 .position, length-part l (q .args .at) (instanceOf (now (q .args .sheet)) .degree (q .args .u)) (row-in (q .pre .0) l (q .pre .1 .0))),
-      (q .pre .0 .some, within-part filmOut (q .args .at) (instanceOf (now (q .args .sheet)) .degree (q .args .u)) l (q .pre .1 .1)),
-    )
+    let d = instanceOf (now (q .args .sheet)) .degree (q .args .step .node) in
+    rw (size (c .before))
+    (omega (arith, q .pre .0 .position, length-part l (q .args .at) d (row-in (q .pre .0) (q .pre .1))), (q .pre .0 .some, within-part costLimit (q .args .at) d l (q .pre .1 .range)))
 
 returns : tie.Need-returns
 returns c =
-    let q = c .before .before .before .before .before in
+    let q = start (c .before .before) in
     let a = q .args in
     let l = now (a .nodes) in
     same (c .amount-of .result) (c .amount-of .ok) ∙ c .amount-of .ensures
-    ∙ ap (λ (d : ℕ). amount (getD (part l (a .at) d) (a .k) (pos 0)) (without (part l (a .at) d) (a .k)) (a .share)) (size (c .before .before))
-    ∙ node-given (q .pre .0) l (q .pre .1 .0)
+    ∙ ap (λ (d : ℕ). amount (getD (part l (a .at) d) (a .step .index) (pos 0)) (without (part l (a .at) d) (a .step .index)) (a .step .share)) (size (c .before .before))
+    ∙ node-given (q .pre .0) (q .pre .1)
 
 pub node-amount-spec : {M : Type 1} → statement M
 node-amount-spec =
     tie.close
     (tie.spec
-    shared-slice-read-wide
-    wide-requires
+    (λ c κs. search needs)
     add-to
     mul-amount-of
-    sub-amount-of
-    part-amount-of-start
+    (λ c. search needs)
+    (λ c. search needs)
     part-amount-of-end
     amount-of-requires
     returns)

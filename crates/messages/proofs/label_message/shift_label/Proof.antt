@@ -8,57 +8,20 @@ use mir.Val.{toZ, ofZ}
 use mir.Facts.{toZ-ofZ}
 use Rattle.integers.specs.Checks.{within}
 use Rattle.integers.proofs.Bits.{same}
-use Rattle.rules.specs.Calls.{filmOut}
-use Rattle.messages.proofs.LabelMoveLaws.{minus-fits, plus-fits, moved-both, moved-not}
+use Rattle.messages.proofs.LabelMessageLaws.{minus-fits, plus-fits, moved-both, moved-not}
 use borrow.Author.Needs.{needs}
 use Rattle.messages.proofs.label_message.shift_label.Statement.{statement}
 use Rattle.messages.proofs.label_message.shift_label.Tie as tie
-
-mul-minus : tie.Need-mul-minus
-mul-minus c = search needs
-
-slice-copy-out-minus : tie.Need-slice-copy-out-minus
-slice-copy-out-minus c = search needs
 
 minus-requires : tie.Need-minus-requires
 minus-requires c κs =
     let q = c .before in
     rw (same (getD (now (q .args .nodes)) (q .args .i) (pos 0)) (c .minus-arg .given), toZ-ofZ (q .fits .p)) (minus-fits (getD (now (q .args .nodes)) (q .args .i) (pos 0)) (q .args .p) (q .pre .1 .0 (q .args .i)) (q .pre .1 .1 .1))
 
-mul-plus : tie.Need-mul-plus
-mul-plus c = search needs
-
-slice-copy-out-plus : tie.Need-slice-copy-out-plus
-slice-copy-out-plus c = search needs
-
 plus-requires : tie.Need-plus-requires
 plus-requires c κs =
     let q = c .before .before .before in
     rw (same (getD (now (q .args .labels)) (q .args .i) (pos 0)) (c .plus-arg .given), toZ-ofZ (q .fits .p)) (plus-fits (getD (now (q .args .labels)) (q .args .i) (pos 0)) (q .args .p) (q .pre .1 .1 .0 (q .args .i)) (q .pre .1 .1 .1))
-
-in-range-requires : tie.Need-in-range-requires
-in-range-requires c κs = search needs
-
-in-range-requires-2 : tie.Need-in-range-requires-2
-in-range-requires-2 c κs = search needs
-
-mul-node : tie.Need-mul-node
-mul-node c = search needs
-
-slice-set-from-node : tie.Need-slice-set-from-node
-slice-set-from-node c = search needs
-
-mul-label : tie.Need-mul-label
-mul-label c = search needs
-
-slice-set-from-label : tie.Need-slice-set-from-label
-slice-set-from-label c = search needs
-
-same-length : tie.Need-same-length
-same-length c = search needs
-
-same-length-2 : tie.Need-same-length-2
-same-length-2 c = search needs
 
 -- both costs as they would be
 module _ (p : tie.After-plus) where
@@ -80,40 +43,40 @@ returns c =
     let p = c .before .before .before .before in
     let a = start p .args in
     rw (node p, label p)
-    (moved-both (now (a .nodes)) (now (a .labels)) (a .i) (a .p) (ap (within filmOut) (sym (node p)) ∙ sym (c .before .before .before .in-range .ensures) ∙ c .before .before .if1 .taken)
-    (ap (within filmOut) (sym (label p)) ∙ sym (c .before .in-range2 .ensures) ∙ c .if2 .taken))
+    (moved-both (a .limit) (now (a .nodes)) (now (a .labels)) (a .i) (a .p) (ap (within (a .limit)) (sym (node p)) ∙ sym (c .before .before .before .in-range .ensures) ∙ c .before .before .if1 .taken)
+    (ap (within (a .limit)) (sym (label p)) ∙ sym (c .before .in-range2 .ensures) ∙ c .if2 .taken))
 
 returns-2 : tie.Need-returns-2
 returns-2 c =
     let p = c .before .before .before .before in
     let a = start p .args in
-    moved-not (now (a .nodes)) (now (a .labels)) (a .i) (a .p)
-    (rw (ap (within filmOut) (sym (node p)) ∙ sym (c .before .before .before .in-range .ensures) ∙ c .before .before .if1 .taken, ap (within filmOut) (sym (label p)) ∙ sym (c .before .in-range2 .ensures) ∙ c .if2 .left))
+    moved-not (a .limit) (now (a .nodes)) (now (a .labels)) (a .i) (a .p)
+    (rw (ap (within (a .limit)) (sym (node p)) ∙ sym (c .before .before .before .in-range .ensures) ∙ c .before .before .if1 .taken, ap (within (a .limit)) (sym (label p)) ∙ sym (c .before .in-range2 .ensures) ∙ c .if2 .left))
 
 returns-3 : tie.Need-returns-3
 returns-3 c =
     let p = c .before .before in
     let a = start p .args in
-    moved-not (now (a .nodes)) (now (a .labels)) (a .i) (a .p) (rw (ap (within filmOut) (sym (node p)) ∙ sym (c .before .in-range .ensures) ∙ c .if1 .left))
+    moved-not (a .limit) (now (a .nodes)) (now (a .labels)) (a .i) (a .p) (rw (ap (within (a .limit)) (sym (node p)) ∙ sym (c .before .in-range .ensures) ∙ c .if1 .left))
 
 pub shift-label-spec : {M : Type 1} → statement M
 shift-label-spec =
     tie.close
     (tie.spec
-    mul-minus
-    slice-copy-out-minus
+    (λ c. search needs)
+    (λ c. search needs)
     minus-requires
-    mul-plus
-    slice-copy-out-plus
+    (λ c. search needs)
+    (λ c. search needs)
     plus-requires
-    in-range-requires
-    in-range-requires-2
-    mul-node
-    slice-set-from-node
-    mul-label
-    slice-set-from-label
-    same-length
-    same-length-2
+    (λ c κs. search needs)
+    (λ c κs. search needs)
+    (λ c. search needs)
+    (λ c. search needs)
+    (λ c. search needs)
+    (λ c. search needs)
+    (λ c. search needs)
+    (λ c. search needs)
     returns
     returns-2
     returns-3)

@@ -7,16 +7,8 @@ use borrow.Author.Needs.{needs}
 use Rattle.messages.proofs.lent.incumbent_ok.Statement.{statement}
 use Rattle.messages.proofs.lent.incumbent_ok.Tie as tie
 
-all-none-requires : tie.Need-all-none-requires
-all-none-requires c κs = search needs
-
 returns : tie.Need-returns
-returns c =
-    let q = c .before .before .before .before in
-    incumbent-none (instanceOf (now (q .args .sheet))) (now (q .args .x)) (sym (c .before .all-none .ensures) ∙ c .if1 .taken)
-
-is-matching-requires : tie.Need-is-matching-requires
-is-matching-requires c κs = search needs
+returns c = let q = c .before .before .before .before in incumbent-none (instanceOf (now (q .args .sheet))) (now (q .args .x)) (sym (c .before .all-none .ensures) ∙ c .if1 .taken)
 
 returns-2 : tie.Need-returns-2
 returns-2 c =
@@ -24,4 +16,10 @@ returns-2 c =
     c .is-matching .ensures ∙ incumbent-some (instanceOf (now (q .args .sheet))) (now (q .args .x)) (sym (c .before .before .all-none .ensures) ∙ c .before .if1 .left)
 
 pub incumbent-ok-spec : {M : Type 1} → statement M
-incumbent-ok-spec = tie.close (tie.spec all-none-requires returns is-matching-requires returns-2)
+incumbent-ok-spec =
+    tie.close
+    (tie.spec
+    (λ c κs. search needs)
+    returns
+    (λ c κs. search needs)
+    returns-2)

@@ -3,108 +3,105 @@ use Prim.Native.Nat.{ℕ}
 use native.Mathlib.Omega.{arith}
 use mathlib.Core.Bool.{true}
 use mathlib.Core.List.{List}
-use mathlib.Core.Path.{_≡_, sym, _∙_}
+use mathlib.Core.Path.{_≡_, sym, subst, _∙_}
 use denote.Ref.{now}
 use Rattle.instance.specs.declared.reading.Layout.{Layout}
 use Rattle.instance.specs.Sheet.{instanceOf, refusalOf}
-use Rattle.instance.proofs.LaidOut.{LaidOut, refusal-is, laid-out}
+use Rattle.instance.proofs.LaidOut.{refusal-is}
 use Rattle.rules.specs.Costs.{Buffers, inRange}
-use Rattle.rules.specs.Calls.{lengthsOk, filmOut}
-use Rattle.messages.specs.World.{lent}
+use Rattle.rules.specs.Calls.{lengthsOk}
+use Rattle.messages.specs.declared.view.View.{View}
+use Rattle.messages.specs.Lent.{lent}
+use Rattle.messages.specs.Seen.{Seen}
 use Rattle.messages.proofs.OpenLaws.{lengths-by, lengths-are}
-use Rattle.messages.proofs.LentLaws.{unrefused, seen-of, lent-unread, lent-unfit, lent-far, lent-torn, lent-good, range-by}
+use Rattle.messages.proofs.LentLaws.{unrefused, laid, seen-of, lent-unread, lent-unfit, lent-far, lent-unmatched, lent-good, range-by}
 use borrow.Author.Needs.{needs}
 use Rattle.messages.proofs.lent.lent_refusal.Statement.{statement}
 use Rattle.messages.proofs.lent.lent_refusal.Tie as tie
+
+module _ (q : tie.Start) where
+  abbrev sheet : List ℕ
+  sheet = now (q .args .sheet)
+
+  abbrev lends : Buffers
+  lends = lent (now (q .args .nodes)) (now (q .args .labels)) (now (q .args .edges)) (now (q .args .incumbent))
 
 -- past the sheet's refusal
 module _ (p : tie.Else1) where
   abbrev start : tie.Start
   start = p .before .before .before .before
 
-  abbrev sheet : List ℕ
-  sheet = now (start .args .sheet)
-
-  abbrev lends : Buffers
-  lends = lent (now (start .args .nodes)) (now (start .args .labels)) (now (start .args .edges)) (now (start .args .incumbent))
-
-  abbrev layout : Layout
-  layout = start .args .layout
-
-  laid : LaidOut sheet layout
-  laid = laid-out sheet (start .pre) (p .if1 .left)
-
-  read-well : refusalOf sheet ≡ 0
-  read-well = unrefused sheet (start .pre) (p .if1 .left)
+  read-well : refusalOf (sheet start) ≡ 0
+  read-well = unrefused (sheet start) (start .pre .0) (p .if1 .left)
 
 -- past the lengths
-agreed : (p : tie.Then2) → lengthsOk (instanceOf (sheet (p .before .before))) (lends (p .before .before)) ≡ true
-agreed p = lengths-by (sheet (p .before .before)) (lends (p .before .before)) (laid (p .before .before)) ∙ sym (p .before .lengths-agree .ensures) ∙ p .if2 .taken
+module _ (p : tie.Then2) where
+  abbrev read : tie.Else1
+  read = p .before .before
+
+  agreed : lengthsOk (instanceOf (sheet (start read))) (lends (start read)) ≡ true
+  agreed = let q = start read in lengths-by (sheet q) (lends q) (laid (sheet q) (q .pre .0) (read .if1 .left)) ∙ sym (p .before .lengths-agree .ensures) ∙ p .if2 .taken
 
 -- past the costs
-ranged : (p : tie.Then3) → inRange filmOut (lends (p .before .before .before .before)) ≡ true
-ranged p = let o = p .before .before .before .before in range-by (sheet o) (lends o) ∙ sym (p .before .costs-ok .ensures) ∙ p .if3 .taken
+ranged : (p : tie.Then3) → (let q = start (read (p .before .before)) in inRange (q .args .limit) (lends q) ≡ true)
+ranged p = let q = start (read (p .before .before)) in range-by (sheet q) (q .args .limit) (lends q) ∙ sym (p .before .costs-ok .ensures) ∙ p .if3 .taken
 
 returns : tie.Need-returns
 returns c =
     let q = c .before .before .before .before in
-    let s = now (q .args .sheet) in
-    let n = refusal-is s (q .pre) in
-    n ∙ lent-unread s (lent (now (q .args .nodes)) (now (q .args .labels)) (now (q .args .edges)) (now (q .args .incumbent))) (λ z. c .if1 .taken (n ∙ z))
-
-lengths-agree-requires : tie.Need-lengths-agree-requires
-lengths-agree-requires c κs = search needs
+    let n = refusal-is (sheet q) (q .pre .0) in
+    n ∙ lent-unread (sheet q) (q .args .limit) (lends q) (λ z. c .if1 .taken (n ∙ z))
 
 costs-ok-requires : tie.Need-costs-ok-requires
-costs-ok-requires c κs = search needs
+costs-ok-requires c κs = start (read c) .pre .1
 
-mul-ends : tie.Need-mul-ends
-mul-ends c = omega (arith, laid (c .before .before .before .before .before))
-
-add-ends : tie.Need-add-ends
-add-ends c = omega (arith, laid (c .before .before .before .before .before))
+view-of-requires : tie.Need-view-of-requires
+view-of-requires c κs = let o = read (c .before .before) in let q = start o in let d = laid (sheet q) (q .pre .0) (o .if1 .left) in (d .nodesFew, d .positionsFew, d .edgesFew)
 
 incumbent-ok-requires : tie.Need-incumbent-ok-requires
 incumbent-ok-requires c κs =
-    let t = c .before .before .before .before .before .before .before in
-    let o = t .before .before in
-    let (l1, l2, l3, l4) = lengths-are (sheet o) (lends o) (agreed t) in
-    (seen-of (sheet o) (start o .pre) (o .if1 .left), l4 ∙ sym (laid o .nodes))
+    let v = c .before .before in
+    let t = v .before .before .before in
+    let o = read t in
+    let q = start o in
+    let w = subst (λ (x : View). Seen (sheet q) x (q .args .layout .starts) (q .args .layout .tables)) (sym (v .view-of .ensures)) (seen-of (sheet q) (q .pre .0) (o .if1 .left) (q .args .limit) (q .pre .1)) in
+    let (l1, l2, l3, l4) = lengths-are (sheet q) (lends q) (agreed t) in
+    ((w .viewed, w .begun), l4 ∙ sym (w .viewed .nodes))
 
 returns-2 : tie.Need-returns-2
 returns-2 c =
-    let r = c .before .before .before .before .before .before .before in
+    let r = c .before .before .before .before .before in
     let t = r .before .before in
-    let o = t .before .before in
-    lent-good (sheet o) (lends o) (read-well o) (agreed t) (ranged r) (sym (c .before .incumbent-ok .ensures) ∙ c .if4 .taken)
+    let q = start (read t) in
+    lent-good (sheet q) (q .args .limit) (lends q) (read-well (read t)) (agreed t) (ranged r) (sym (c .before .incumbent-ok .ensures) ∙ c .if4 .taken)
 
 returns-3 : tie.Need-returns-3
 returns-3 c =
-    let r = c .before .before .before .before .before .before .before in
+    let r = c .before .before .before .before .before in
     let t = r .before .before in
-    let o = t .before .before in
-    lent-torn (sheet o) (lends o) (read-well o) (agreed t) (ranged r) (sym (c .before .incumbent-ok .ensures) ∙ c .if4 .left)
+    let q = start (read t) in
+    lent-unmatched (sheet q) (q .args .limit) (lends q) (read-well (read t)) (agreed t) (ranged r) (sym (c .before .incumbent-ok .ensures) ∙ c .if4 .left)
 
 returns-4 : tie.Need-returns-4
 returns-4 c =
     let t = c .before .before in
-    let o = t .before .before in
-    lent-far (sheet o) (lends o) (read-well o) (agreed t) (range-by (sheet o) (lends o) ∙ sym (c .before .costs-ok .ensures) ∙ c .if3 .left)
+    let q = start (read t) in
+    lent-far (sheet q) (q .args .limit) (lends q) (read-well (read t)) (agreed t) (range-by (sheet q) (q .args .limit) (lends q) ∙ sym (c .before .costs-ok .ensures) ∙ c .if3 .left)
 
 returns-5 : tie.Need-returns-5
 returns-5 c =
     let o = c .before .before in
-    lent-unfit (sheet o) (lends o) (read-well o) (lengths-by (sheet o) (lends o) (laid o) ∙ sym (c .before .lengths-agree .ensures) ∙ c .if2 .left)
+    let q = start o in
+    lent-unfit (sheet q) (q .args .limit) (lends q) (read-well o) (lengths-by (sheet q) (lends q) (laid (sheet q) (q .pre .0) (o .if1 .left)) ∙ sym (c .before .lengths-agree .ensures) ∙ c .if2 .left)
 
 pub lent-refusal-spec : {M : Type 1} → statement M
 lent-refusal-spec =
     tie.close
     (tie.spec
     returns
-    lengths-agree-requires
+    (λ c κs. search needs)
     costs-ok-requires
-    mul-ends
-    add-ends
+    view-of-requires
     incumbent-ok-requires
     returns-2
     returns-3

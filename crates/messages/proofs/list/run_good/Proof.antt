@@ -1,20 +1,18 @@
 -- `run_good` meets its contract: what reading answered is what a run asks.
-use Prim.Native.Nat.{ℕ, _+_, _-_, _*_}
+use Prim.Native.Nat.{ℕ}
 use mathlib.Core.List.{List}
-use mathlib.Core.Path.{_≡_, sym, ap, _∙_, subst}
-use lib.ListN.{length, getD, take, drop}
+use mathlib.Core.Path.{_≡_, sym, ap, subst, _∙_}
 use denote.Ref.{now}
-use Rattle.instance.specs.declared.reading.Layout.{Layout}
-use Rattle.instance.proofs.LaidOut.{LaidOut, refusal-is, laid-out}
-use Rattle.rules.specs.Costs.{Buffers}
-use Rattle.instance.specs.Instance.{nodeCells}
 use Rattle.instance.specs.Sheet.{instanceOf}
-use Rattle.messages.specs.World.{lent, Known}
-use Rattle.messages.specs.Index.{Indexed, Indexable}
-use Rattle.messages.proofs.RivalLaws.{labelBytes, labels-indexable, labels-indexed}
-use Rattle.messages.proofs.LentLaws.{LentWell, lent-well, seen-of, priced-of}
+use Rattle.instance.proofs.LaidOut.{refusal-is}
+use Rattle.rules.specs.Costs.{Buffers}
+use Rattle.rules.specs.Run.{runList}
+use Rattle.messages.specs.declared.view.View.{View}
+use Rattle.messages.specs.Lent.{lent}
+use Rattle.messages.specs.Seen.{Seen}
+use Rattle.messages.specs.Turn.{Good}
+use Rattle.messages.proofs.LentLaws.{LentWell, lent-well, laid, seen-of}
 use Rattle.messages.proofs.TurnLaws.{good-of}
-use native.Mathlib.Omega.{arith}
 use borrow.Author.Needs.{needs}
 use Rattle.messages.proofs.list.run_good.Statement.{statement}
 use Rattle.messages.proofs.list.run_good.Tie as tie
@@ -23,99 +21,63 @@ module _ (q : tie.Start) where
   abbrev sheet : List ℕ
   sheet = now (q .args .sheet)
 
-  abbrev layout : Layout
-  layout = q .args .layout
-
   abbrev lends : Buffers
   lends = lent (now (q .args .nodes)) (now (q .args .labels)) (now (q .args .edges)) (now (q .args .incumbent))
 
-  well : LentWell sheet lends
-  well = lent-well sheet lends (q .pre .1 .0)
+  well : LentWell sheet (q .args .limit) lends
+  well = lent-well sheet (q .args .limit) lends (q .pre .1 .0)
 
-  unread : layout .refusal ≡ 0
-  unread = refusal-is sheet (q .pre .0) ∙ well .readable
+  unread : q .args .layout .refusal ≡ 0
+  unread = refusal-is sheet (q .pre .0 .0) ∙ well .readable
 
-  laid : LaidOut sheet layout
-  laid = laid-out sheet (q .pre .0) unread
+-- the view
+module _ (v : tie.After-view-of) where
+  abbrev start : tie.Start
+  start = v .before .before .before .before
 
-mul-ends : tie.Need-mul-ends
-mul-ends c = omega (arith, laid (c .before .before .before .before))
+  seen : Seen (sheet start) (v .view-of .result) (start .args .layout .starts) (start .args .layout .tables)
+  seen =
+      subst (λ (x : View). Seen (sheet start) x (start .args .layout .starts) (start .args .layout .tables)) (sym (v .view-of .ensures))
+      (seen-of (sheet start) (start .pre .0 .0) (unread start) (start .args .limit) (start .pre .0 .1))
 
-add-ends : tie.Need-add-ends
-add-ends c = omega (arith, laid (c .before .before .before .before))
+  limited : start .args .limit ≡ v .view-of .result .limit
+  limited = ap (λ (x : View). x .limit) (sym (v .view-of .ensures))
 
-add-prices : tie.Need-add-prices
-add-prices c = omega (arith, laid (c .before .before .before .before .before))
+  good : Good (sheet start) (v .view-of .result .limit) (lends start)
+  good = subst (λ (k : ℕ). Good (sheet start) k (lends start)) limited (good-of (sheet start) (start .args .limit) (lends start) (well start))
 
-mul-cells : tie.Need-mul-cells
-mul-cells c = omega (arith, laid (c .before .before .before .before .before))
+view-of-requires : tie.Need-view-of-requires
+view-of-requires c κs = let q = c .before .before .before in let d = laid (sheet q) (q .pre .0 .0) (unread q) in (d .nodesFew, d .positionsFew, d .edgesFew)
 
-add-cells : tie.Need-add-cells
-add-cells c = omega (arith, laid (c .before .before .before .before .before))
+holders-of-requires : tie.Need-holders-of-requires
+holders-of-requires c κs = seen (c .before .before) .viewed
 
-sub-index-by : tie.Need-sub-index-by
-sub-index-by c = omega (arith, laid (c .before .before .before .before .before .before .before))
-
-part-index-by-start : tie.Need-part-index-by-start
-part-index-by-start c = omega (arith, laid (c .before .before .before .before .before .before .before))
-
-part-index-by-end : tie.Need-part-index-by-end
-part-index-by-end c = omega (arith, laid (c .before .before .before .before .before .before .before))
-
--- the bytes of the labels, which stand between the degrees and the node prices
-module _ (q : tie.Start) where
-  known : Known (sheet q) (layout q .nodes) (layout q .nodes + 5 * layout q .positions)
-  known = seen-of (sheet q) (q .pre .0) (unread q) .known
-
-  bytes : take (layout q .nodes + layout q .positions - layout q .nodes) (drop (layout q .nodes) (sheet q)) ≡ labelBytes (known)
-  bytes = let e : layout q .nodes + layout q .positions - layout q .nodes ≡ nodeCells (instanceOf (sheet q)) = omega (arith, laid q) in ap (λ (m : ℕ). take m (drop (layout q .nodes) (sheet q))) e
-
-index-by-requires : tie.Need-index-by-requires
-index-by-requires c κs = let q = c .before .before .before .before .before .before .before .before in subst (λ (l : List ℕ). Indexable l) (sym (bytes q)) (labels-indexable (known q))
-
-edges-by-high-requires : tie.Need-edges-by-high-requires
-edges-by-high-requires c κs = let q = c .before .before .before .before .before .before .before .before .before in (known q, priced-of (sheet q) (q .pre .0) (unread q) .count)
+lowers-of-requires : tie.Need-lowers-of-requires
+lowers-of-requires c κs = seen (c .before .before .before) .viewed
 
 run-all-requires : tie.Need-run-all-requires
 run-all-requires c κs =
-    let h = c .before .before .before .before .before .before .before .before in
-    let i = h .before in
-    let q = i .before .before .before .before .before .before .before .before .before in
-    let holders = labels-indexed (known q) (subst (λ (l : List ℕ). Indexed (λ j. getD l j 0) (length l) (i .index-by .result)) (bytes q) (i .index-by .ensures)) in
-    (seen-of (sheet q) (q .pre .0) (unread q), ((holders, h .edges-by-high .ensures), (priced-of (sheet q) (q .pre .0) (unread q), (good-of (sheet q) (lends q) (well q), q .pre .1 .1))))
-
-same-length : tie.Need-same-length
-same-length c = search needs
-
-same-length-2 : tie.Need-same-length-2
-same-length-2 c = search needs
-
-same-length-3 : tie.Need-same-length-3
-same-length-3 c = search needs
-
-same-length-4 : tie.Need-same-length-4
-same-length-4 c = search needs
+    let l = c .before .before .before .before .before .before .before .before in
+    let h = l .before in
+    let v = h .before .before .before in
+    (seen v, ((h .holders-of .ensures, l .lowers-of .ensures), (good v, start v .pre .1 .1)))
 
 returns : tie.Need-returns
-returns c = search needs
+returns c =
+    let r = c .before .before .before .before .before in
+    let v = r .before .before .before .before .before .before .before .before .before .before .before .before .before in
+    r .run-all .ensures ∙ ap (λ (k : ℕ). runList (instanceOf (sheet (start v))) k (lends (start v)) (now (start v .args .records))) (sym (limited v))
 
 pub run-good-spec : {M : Type 1} → statement M
 run-good-spec =
     tie.close
     (tie.spec
-    mul-ends
-    add-ends
-    add-prices
-    mul-cells
-    add-cells
-    sub-index-by
-    part-index-by-start
-    part-index-by-end
-    index-by-requires
-    edges-by-high-requires
+    view-of-requires
+    holders-of-requires
+    lowers-of-requires
     run-all-requires
-    same-length
-    same-length-2
-    same-length-3
-    same-length-4
+    (λ c. search needs)
+    (λ c. search needs)
+    (λ c. search needs)
+    (λ c. search needs)
     returns)

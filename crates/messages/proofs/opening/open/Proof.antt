@@ -3,16 +3,19 @@ use Prim.Native.Nat.{ℕ, _+_, _*_}
 use native.Mathlib.Omega.{arith}
 use mathlib.Core.Bool.{true}
 use mathlib.Core.List.{List}
-use mathlib.Core.Path.{_≡_, ap, sym, _∙_}
+use mathlib.Core.Path.{_≡_, ap, sym, subst, _∙_}
 use denote.Ref.{now}
 use Rattle.instance.specs.declared.reading.Layout.{Layout}
-use Rattle.instance.specs.Instance.{first}
-use Rattle.instance.specs.Sheet.{instanceOf, nodePricesAt, edgePricesAt, refusalOf}
-use Rattle.instance.proofs.LaidOut.{LaidOut, refusal-is, laid-out}
+use Rattle.instance.specs.Sheet.{instanceOf}
+use Rattle.instance.specs.Layout.{layoutOf}
+use Rattle.instance.proofs.LaidOut.{LaidOut, refusal-is}
 use Rattle.rules.specs.Costs.{Buffers}
-use Rattle.rules.specs.Calls.{lengthsOk}
-use Rattle.messages.specs.World.{lent, opens}
+use Rattle.rules.specs.Calls.{lengthsOk, costLimit}
+use Rattle.messages.specs.declared.view.View.{View}
+use Rattle.messages.specs.Lent.{lent, opens}
+use Rattle.messages.specs.Seen.{Viewed}
 use Rattle.messages.proofs.OpenLaws.{lengths-by, lengths-are, open-unread, open-unfit, open-fills, filled-opened}
+use Rattle.messages.proofs.LentLaws.{unrefused, laid, viewed-of}
 use borrow.Author.Needs.{needs}
 use Rattle.messages.proofs.opening.open.Statement.{statement}
 use Rattle.messages.proofs.opening.open.Tie as tie
@@ -21,39 +24,33 @@ use Rattle.messages.proofs.opening.open.Tie as tie
 abbrev started : tie.Start → Buffers
 started q = lent (now (q .args .nodes)) (now (q .args .labels)) (now (q .args .edges)) (now (q .args .incumbent))
 
--- past both tests: the sheet is readable, and the lengths agree
-module _ (p : tie.Then2) where
+-- past the sheet's refusal
+module _ (p : tie.Else1) where
   abbrev start : tie.Start
-  start = p .before .before .before .before .before .before .before
+  start = p .before .before .before .before .before
 
   abbrev sheet : List ℕ
   sheet = now (start .args .sheet)
 
-  abbrev before : Buffers
-  before = started start
-
   abbrev layout : Layout
-  layout = p .before .before .before .before .read .result
+  layout = p .before .before .read .result
 
-  laid : LaidOut sheet layout
-  laid = laid-out sheet (p .before .before .before .before .read .ensures) (p .before .before .if1 .left)
+  abbrev read : layout ≡ layoutOf sheet
+  read = p .before .before .read .ensures
 
-  unrefused : refusalOf sheet ≡ 0
-  unrefused = sym (refusal-is sheet (p .before .before .before .before .read .ensures)) ∙ p .before .before .if1 .left
+  sections : LaidOut sheet layout
+  sections = laid sheet read (p .if1 .left)
 
-  agreed : lengthsOk (instanceOf sheet) before ≡ true
-  agreed = lengths-by sheet before laid ∙ sym (p .before .lengths-agree .ensures) ∙ p .if2 .taken
+-- past the lengths
+module _ (p : tie.Then2) where
+  abbrev good : tie.Else1
+  good = p .before .before
 
-  unary-is : layout .nodes + layout .positions ≡ nodePricesAt sheet
-  unfolding first instanceOf
-  unary-is = omega (arith, laid)
+  agreed : lengthsOk (instanceOf (sheet good)) (started (start good)) ≡ true
+  agreed = lengths-by (sheet good) (started (start good)) (sections good) ∙ sym (p .before .lengths-agree .ensures) ∙ p .if2 .taken
 
-  pairwise-is : layout .nodes + 5 * layout .positions + 2 * layout .edges ≡ edgePricesAt sheet
-  unfolding first instanceOf
-  pairwise-is = omega (arith, laid)
-
-read-requires : tie.Need-read-requires
-read-requires c κs = search needs
+viewed : (p : tie.After-view-of) → Viewed (sheet (good (p .before))) (p .view-of .result)
+viewed p = let g = good (p .before) in subst (Viewed (sheet g)) (sym (p .view-of .ensures)) (viewed-of (sheet g) (read g) (g .if1 .left) costLimit (omega arith))
 
 returns : tie.Need-returns
 returns c =
@@ -62,74 +59,44 @@ returns c =
     let n = refusal-is s (q .read .ensures) in
     ap (opens (started (q .before .before .before))) n ∙ open-unread s (started (q .before .before .before)) (λ z. c .if1 .taken (n ∙ z))
 
-lengths-agree-requires : tie.Need-lengths-agree-requires
-lengths-agree-requires c κs = search needs
-
-add-unary : tie.Need-add-unary
-add-unary c = omega (arith, laid (c .before))
-
-mul-pairwise : tie.Need-mul-pairwise
-mul-pairwise c = omega (arith, laid (c .before .before))
-
-add-pairwise : tie.Need-add-pairwise
-add-pairwise c = omega (arith, laid (c .before .before .before))
-
-mul-pairwise-2 : tie.Need-mul-pairwise-2
-mul-pairwise-2 c = omega (arith, laid (c .before .before .before .before))
-
-add-pairwise-2 : tie.Need-add-pairwise-2
-add-pairwise-2 c = omega (arith, laid (c .before .before .before .before))
+view-of-requires : tie.Need-view-of-requires
+view-of-requires c κs = let d = sections (good c) in (d .nodesFew, d .positionsFew, d .edgesFew)
 
 fill-requires : tie.Need-fill-requires
 fill-requires c κs =
-    let p = c .before .before .before .before .before .before .before .before in
-    let l = lengths-are (sheet p) (before p) (agreed p) in
-    (omega (arith, laid p, l), omega (arith, laid p, l))
-
-same-length : tie.Need-same-length
-same-length c = search needs
-
-same-length-2 : tie.Need-same-length-2
-same-length-2 c = search needs
-
-same-length-3 : tie.Need-same-length-3
-same-length-3 c = search needs
-
-same-length-4 : tie.Need-same-length-4
-same-length-4 c = search needs
+    let v = c .before .before .before .before in
+    let g = good (v .before) in
+    let (l1, l2, l3, l4) = lengths-are (sheet g) (started (start g)) (agreed (v .before)) in
+    let d = sections g in
+    (omega (arith, ap (λ (x : View). x .prices) (v .view-of .ensures), d .sound .whole, d .nodes, d .positions), omega (arith, ap (λ (x : View). x .cells) (v .view-of .ensures), d .sound .whole, d .nodes, d .positions, d .edges))
 
 returns-2 : tie.Need-returns-2
 returns-2 c =
-    let p = c .before .before .before .before .before .before .before .before .before .before .before .before .before .before in
-    let f = c .before .before .before .before .before .fill .ensures in
-    let l = laid p in
-    ap (λ (b : Buffers). opens b 0) (filled-opened (sheet p) (before p) (unary-is p) (pairwise-is p) (agreed p) (f .0) (f .1 .0) (f .1 .1 .0) (f .1 .1 .1))
-    ∙ open-fills (sheet p) (before p) (unrefused p) (agreed p)
+    let f = c .before .before .before .before .before in
+    let v = f .before .before .before .before .before in
+    let t = v .before in
+    let g = good t in
+    let e = f .fill .ensures in
+    ap (λ (b : Buffers). opens b 0) (filled-opened (sheet g) (started (start g)) (viewed v .prices) (viewed v .cells) (agreed t) (e .0) (e .1 .0) (e .1 .1 .0) (e .1 .1 .1))
+    ∙ open-fills (sheet g) (started (start g)) (unrefused (sheet g) (read g) (g .if1 .left)) (agreed t)
 
 returns-3 : tie.Need-returns-3
 returns-3 c =
-    let q = c .before .before .before .before in
-    let s = now (q .before .before .before .args .sheet) in
-    let z = c .before .before .if1 .left in
-    let d = laid-out s (q .read .ensures) z in
-    open-unfit s (started (q .before .before .before)) (sym (refusal-is s (q .read .ensures)) ∙ z) (lengths-by s (started (q .before .before .before)) d ∙ sym (c .before .lengths-agree .ensures) ∙ c .if2 .left)
+    let g = c .before .before in
+    open-unfit (sheet g) (started (start g)) (unrefused (sheet g) (read g) (g .if1 .left)) (lengths-by (sheet g) (started (start g)) (sections g) ∙ sym (c .before .lengths-agree .ensures) ∙ c .if2 .left)
 
 pub open-spec : {M : Type 1} → statement M
 open-spec =
     tie.close
     (tie.spec
-    read-requires
+    (λ c κs. search needs)
     returns
-    lengths-agree-requires
-    add-unary
-    mul-pairwise
-    add-pairwise
-    mul-pairwise-2
-    add-pairwise-2
+    (λ c κs. search needs)
+    view-of-requires
     fill-requires
-    same-length
-    same-length-2
-    same-length-3
-    same-length-4
+    (λ c. search needs)
+    (λ c. search needs)
+    (λ c. search needs)
+    (λ c. search needs)
     returns-2
     returns-3)

@@ -9,10 +9,7 @@ use borrow.Author.Needs.{needs}
 use Rattle.messages.proofs.records.edge_record.Statement.{statement}
 use Rattle.messages.proofs.records.edge_record.Tie as tie
 
-legal-edge-requires : tie.Need-legal-edge-requires
-legal-edge-requires c κs = search needs
-
-legal : (p : tie.Then1) → legalEdge (instanceOf (now (p .before .before .before .args .sheet))) (p .before .before .before .args .u) (p .before .before .before .args .e) (p .before .before .before .args .share) ≡ true
+legal : (p : tie.Then1) → legalEdge (instanceOf (now (p .before .before .before .args .sheet))) (p .before .before .before .args .step .node) (p .before .before .before .args .step .index) (p .before .before .before .args .step .share) ≡ true
 legal p = sym (p .before .legal-edge .ensures) ∙ p .if1 .taken
 
 move-edge-requires : tie.Need-move-edge-requires
@@ -20,26 +17,20 @@ move-edge-requires c κs =
     let p = c .before .before in
     let q = p .before .before .before in
     let a = q .args in
-    edge-legal (q .pre .0) (now (a .nodes)) (now (a .edges)) (a .u) (a .e) (a .share) (q .pre .1 .1) (legal p)
-
-same-length : tie.Need-same-length
-same-length c = search needs
-
-same-length-2 : tie.Need-same-length-2
-same-length-2 c = search needs
+    edge-legal (q .pre .0) (q .pre .1 .0) (q .pre .1 .1) (a .step .node) (a .step .index) (a .step .share) (legal p)
 
 returns : tie.Need-returns
 returns c =
     let p = c .before .before .before .before .before in
     let a = p .before .before .before .args in
-    c .before .before .move-edge .ensures ∙ edge-taken (instanceOf (now (a .sheet))) (now (a .nodes)) (now (a .edges)) (a .turned) (a .u) (a .e) (a .share) (legal p)
+    c .before .before .move-edge .ensures ∙ edge-taken (instanceOf (now (a .sheet))) (a .view .limit) (now (a .nodes)) (now (a .edges)) (a .turned) (a .step .node) (a .step .index) (a .step .share) (legal p)
 
 returns-2 : tie.Need-returns-2
 returns-2 c =
     let a = c .before .before .before .args in
-    edge-refused (instanceOf (now (a .sheet))) (now (a .nodes)) (now (a .edges)) (a .turned) (a .u) (a .e) (a .share) (sym (c .before .legal-edge .ensures) ∙ c .if1 .left)
+    edge-refused (instanceOf (now (a .sheet))) (a .view .limit) (now (a .nodes)) (now (a .edges)) (a .turned) (a .step .node) (a .step .index) (a .step .share) (sym (c .before .legal-edge .ensures) ∙ c .if1 .left)
 
 pub edge-record-spec : {M : Type 1} → statement M
 edge-record-spec =
     tie.close
-    (tie.spec legal-edge-requires move-edge-requires same-length same-length-2 returns returns-2)
+    (tie.spec (λ c κs. search needs) move-edge-requires (λ c. search needs) (λ c. search needs) returns returns-2)

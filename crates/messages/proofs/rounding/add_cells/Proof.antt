@@ -14,7 +14,7 @@ use mir.Facts.{toZ-ofZ}
 use Rattle.integers.proofs.Parts.{linear, add, abs}
 use Rattle.integers.proofs.Bits.{same}
 use Rattle.messages.specs.Rounded.{added}
-use Rattle.messages.proofs.RoundingLaws.{added-none, added-at, added-more, length-added}
+use Rattle.messages.proofs.KeyLaws.{added-none, added-at, added-more, length-added}
 use Rattle.messages.proofs.rounding.add_cells.Statement.{statement}
 use Rattle.messages.proofs.rounding.add_cells.Tie as tie
 
@@ -60,12 +60,6 @@ mul-keys c = omega (arith, long (c .before))
 slice-copy-out-keys : tie.Need-slice-copy-out-keys Inv-loop μ-loop
 slice-copy-out-keys c = omega (arith, long (c .before))
 
-mul-keys-2 : tie.Need-mul-keys-2 Inv-loop μ-loop
-mul-keys-2 c = search needs
-
-shared-slice-copy-out-keys : tie.Need-shared-slice-copy-out-keys Inv-loop μ-loop
-shared-slice-copy-out-keys c = search needs
-
 add-keys : tie.Need-add-keys Inv-loop μ-loop
 add-keys c =
     rw (same (getD (head c .loop .keys) (i c) (pos 0)) (c .before .keys .given), same (getD (row c) (i c) (pos 0)) (c .keys2 .given)) (fits c)
@@ -107,8 +101,8 @@ add-cells-spec =
     loop-holds
     mul-keys
     slice-copy-out-keys
-    mul-keys-2
-    shared-slice-copy-out-keys
+    (λ c. search needs)
+    (λ c. search needs)
     add-keys
     mul-t12
     slice-set-from-keys

@@ -6,7 +6,7 @@ use lib.IntN.{ℤ, pos}
 use lib.Signed.{ltZ}
 use denote.Ref.{now}
 use Rattle.integers.proofs.Bits.{same}
-use Rattle.messages.proofs.RoundingLaws.{better-first, better-less, better-stays, better-taken}
+use Rattle.messages.proofs.ChoiceLaws.{better-first, better-less, better-stays, better-taken}
 use borrow.Author.Needs.{needs}
 use Rattle.messages.proofs.rounding.better_of.Statement.{statement}
 use Rattle.messages.proofs.rounding.better_of.Tie as tie
@@ -16,18 +16,6 @@ key q i = getD (now (q .args .keys)) i (pos 0)
 
 returns : tie.Need-returns
 returns c = better-first (key (c .before .before)) (c .before .before .args .best) (c .before .before .args .k) _ (c .before .if1 .taken) (c .if2 .taken)
-
-mul-if3 : tie.Need-mul-if3
-mul-if3 c = search needs
-
-element-copy-out-if3 : tie.Need-element-copy-out-if3
-element-copy-out-if3 c = search needs
-
-mul-if3-2 : tie.Need-mul-if3-2
-mul-if3-2 c = search needs
-
-element-copy-out-if3-2 : tie.Need-element-copy-out-if3-2
-element-copy-out-if3-2 c = search needs
 
 returns-2 : tie.Need-returns-2
 returns-2 c =
@@ -49,10 +37,10 @@ better-of-spec =
     tie.close
     (tie.spec
     returns
-    mul-if3
-    element-copy-out-if3
-    mul-if3-2
-    element-copy-out-if3-2
+    (λ c. search needs)
+    (λ c. search needs)
+    (λ c. search needs)
+    (λ c. search needs)
     returns-2
     returns-3
     returns-4)

@@ -1,73 +1,116 @@
 -- `keys_of` meets its contract: the edges of which the node is the higher end are gone through by the index.
-use Prim.Native.Nat.{ℕ, _+_, _-_, _*_, _≤_, _<_}
-use mathlib.Core.Path.{_≡_, sym, ap, _∙_, subst}
+use Prim.Native.Nat.{ℕ, _+_, _-_, _*_, _^_, _≤_, _<_}
+use mathlib.Core.Path.{_≡_, sym, ap, ap₂, subst, _∙_}
+use mathlib.Core.List.{List, [], _∷_, _++_, map}
 use native.Mathlib.Omega.{arith}
-use borrow.Author.Needs.{needs}
 use lib.ListN.{length, getD, take, drop, replicate}
-use lib.IntN.{pos}
+use lib.IntN.{ℤ, pos}
 use denote.Ref.{now}
-use Rattle.integers.proofs.Rows.{length-part, within-part}
-use Rattle.instance.specs.Instance.{Instance, first, table}
-use Rattle.rules.specs.Costs.{position}
-use Rattle.instance.specs.Sheet.{instanceOf}
-use Rattle.rules.specs.Calls.{filmOut}
+use Rattle.integers.specs.Places.{range}
 use Rattle.integers.specs.Rows.{part}
-use Rattle.messages.specs.Rounded.{added, edgeAdded}
-use Rattle.messages.specs.Index.{many, Indexed}
-use Rattle.messages.proofs.Sight.{proper, nodes-few}
-use Rattle.messages.proofs.HighLaws.{Keyed, keyed-none, keyed-next, keyed-end, exists}
-use Rattle.messages.proofs.RoundingLaws.{zeros-within, keys-length, keys-small, keys-first, row-room, NodeInside, node-inside, node-read, edge-asked}
+use Rattle.integers.specs.Sum.{Within}
+use Rattle.integers.proofs.Rows.{length-part, within-part}
+use Rattle.instance.specs.Instance.{Instance, first}
+use Rattle.instance.specs.Sheet.{instanceOf}
+use Rattle.instance.proofs.LaidOut.{row-inside, positions-few}
+use Rattle.index.specs.Index.{many}
+use Rattle.index.proofs.Lists.{length-map, length-range}
+use Rattle.rules.specs.Calls.{costLimit}
+use Rattle.messages.specs.Rounded.{added, rowOf}
+use Rattle.messages.proofs.SheetLaws.{proper, nodes-few, start-is}
+use Rattle.messages.proofs.KeyLaws.{zeros-within, keysOver, keys-length, keys-small, keys-first, keys-next, keys-all, things, things-more, thing-keyed, row-room}
+use borrow.Author.Needs.{needs}
 use Rattle.messages.proofs.rounding.keys_of.Statement.{statement}
 use Rattle.messages.proofs.rounding.keys_of.Tie as tie
 
+-- after n edges of the node's row of the index
+abbrev Keyed : List ℕ → List ℤ → List ℤ → List ℕ → ℕ → List ℕ → ℕ → List ℤ → Type 0
+Keyed sheet nodes edges x u lowers n keys = keys ≡ keysOver (instanceOf sheet) nodes edges x u (map (λ j. getD lowers j 0) (range (65 * u + 1) n))
+
 abbrev Inv-loop : tie.InvT-loop
-Inv-loop sheet ends starts tables lowers nodes edges positions u start end row past keys₀ at₀ keys at =
-    (65 * u + 1 ≤ at) × (at ≤ 65 * u + 1 + many lowers u) × Keyed (instanceOf sheet) nodes edges positions u lowers (at - (65 * u + 1)) keys
+Inv-loop sheet view starts tables lowers nodes edges positions u start end row past keys₀ at₀ keys at =
+    (65 * u + 1 ≤ at) × (at ≤ 65 * u + 1 + many lowers u) × Keyed sheet nodes edges positions u lowers (at - (65 * u + 1)) keys
 
 abbrev μ-loop : tie.MeasureT-loop
-μ-loop sheet ends starts tables lowers nodes edges positions u start end row past keys₀ at₀ keys at = 65 * u + 1 + many lowers u - at
+μ-loop sheet view starts tables lowers nodes edges positions u start end row past keys₀ at₀ keys at = 65 * u + 1 + many lowers u - at
 
 -- the node at entry
-abbrev J : tie.Start Inv-loop μ-loop → Instance
-J q = instanceOf (now (q .args .sheet))
+module _ (q : tie.Start Inv-loop μ-loop) where
+  abbrev s : List ℕ
+  s = now (q .args .sheet)
 
-node : (q : tie.Start Inv-loop μ-loop) → NodeInside (q .pre .0) (q .pre .1 .0)
-node q = node-inside (q .pre .0) (q .pre .1 .0)
+  abbrev I : Instance
+  I = instanceOf s
+
+  abbrev nodes : List ℤ
+  nodes = now (q .args .nodes)
+
+  abbrev edges : List ℤ
+  edges = now (q .args .edges)
+
+  abbrev x : List ℕ
+  x = now (q .args .positions)
+
+  abbrev u : ℕ
+  u = q .args .u
+
+  abbrev lowers : List ℕ
+  lowers = now (q .args .lowers)
+
+  low : u < 64
+  low = omega (arith, q .pre .1 .0, nodes-few (q .pre .0 .seen .viewed))
+
+  node : u < I .nodeCount
+  node = omega (arith, q .pre .1 .0, q .pre .0 .seen .viewed .nodes)
+
+  begins : getD (now (q .args .starts)) u 0 ≡ first I u
+  begins = start-is s (q .pre .0 .seen .begun) (q .pre .0 .seen .viewed .readable) node
+
+  inside : first I u + I .degree u ≤ length nodes
+  inside = omega (arith, row-inside (proper s (q .pre .0 .seen .viewed .readable)) node, q .pre .0 .nodeCosts .size)
+
+  short : length nodes ≤ 1_024
+  short = omega (arith, positions-few (proper s (q .pre .0 .seen .viewed .readable)), q .pre .0 .nodeCosts .size)
+
+  -- the row of the index lies in it
+  row-few : many lowers u ≤ 64
+  row-few = q .pre .0 .indexed .few u low
 
 -- its row, where the degree was read
-module _ (p : tie.After-wide Inv-loop μ-loop) where
-  abbrev start : tie.Start Inv-loop μ-loop
-  start = p .before .before .before .before
+module _ (p : tie.After-degree-of Inv-loop μ-loop) where
+  abbrev entry : tie.Start Inv-loop μ-loop
+  entry = p .before .before .before
 
   abbrev begin : ℕ
-  begin = getD (now (start .args .starts)) (start .args .u) 0
+  begin = getD (now (entry .args .starts)) (u entry) 0
 
-  degree-read : p .wide .result ≡ J start .degree (start .args .u)
-  degree-read = p .wide .ensures .0 ∙ node start .degree
+  room : begin + p .degree-of .result ≤ length (nodes entry)
+  room = omega (arith, begins entry, p .degree-of .ensures .0, inside entry)
 
-  room : begin + p .wide .result ≤ length (now (start .args .nodes))
-  room = omega (arith, degree-read, node start)
+  read : take (begin + p .degree-of .result - begin) (drop begin (nodes entry)) ≡ part (nodes entry) (first (I entry) (u entry)) (I entry .degree (u entry))
+  read =
+      let a : begin + p .degree-of .result - begin ≡ p .degree-of .result = omega arith in
+      ap₂ (λ (m k : ℕ). take m (drop k (nodes entry))) (a ∙ p .degree-of .ensures .0) (begins entry)
 
-  read : take (begin + p .wide .result - begin) (drop begin (now (start .args .nodes))) ≡ part (now (start .args .nodes)) (first (J start) (start .args .u)) (J start .degree (start .args .u))
-  read = node-read (start .pre .0) (start .pre .1 .0) begin (p .wide .result) (node start .begins) degree-read
-
--- the index has a row for it
-low : (q : tie.Start Inv-loop μ-loop) → q .args .u < 64
-low q = omega (arith, q .pre .1 .0, nodes-few (q .pre .0 .seen .known))
-
-indexed : (q : tie.Start Inv-loop μ-loop) → Indexed (J q .high) (J q .edgeCount) (now (q .args .lowers))
-indexed q = q .pre .1 .1 .1
-
--- 16 keys, in each turn
+-- in each turn
 module _ (t : tie.At-loop Inv-loop μ-loop) where
-  abbrev entry : tie.Start Inv-loop μ-loop
-  entry = t .before .before .before .before .before .before .before .before .before .before .before
+  abbrev start : tie.Start Inv-loop μ-loop
+  start = t .before .before .before .before .before .before .before .before .before .before
 
-  abbrev sofar : Keyed (J entry) (now (entry .args .nodes)) (now (entry .args .edges)) (now (entry .args .positions)) (entry .args .u) (now (entry .args .lowers)) (t .loop .at - (65 * entry .args .u + 1)) (t .loop .keys)
-  sofar = t .loop .inv .2
+  abbrev n : ℕ
+  n = t .loop .at - (65 * u start + 1)
+
+  abbrev sofar : List ℕ
+  sofar = things (start .pre .0 .indexed) (u start) (low start) n
 
   long : length (t .loop .keys) ≡ 16
-  long = ap length (sofar .are) ∙ keys-length (J entry) (now (entry .args .nodes)) (now (entry .args .edges)) (now (entry .args .positions)) (entry .args .u) (sofar .upto)
+  long = ap length (t .loop .inv .2) ∙ keys-length (I start) (nodes start) (edges start) (x start) (u start) sofar
+
+  small : Within (2 ^ 50) (t .loop .keys)
+  small =
+      subst (Within (2 ^ 50)) (sym (t .loop .inv .2))
+      (keys-small (I start) (nodes start) (edges start) (x start) (u start) (start .pre .0 .nodeCosts .range) (start .pre .0 .edgeCosts .range) sofar
+      (omega (arith, length-map (λ j. getD (lowers start) j 0) (range (65 * u start + 1) n), length-range (65 * u start + 1) n, t .loop .inv .0, t .loop .inv .1, row-few start)))
 
 -- an edge of the row
 module _ (p : tie.After-number2 Inv-loop μ-loop) where
@@ -75,43 +118,37 @@ module _ (p : tie.After-number2 Inv-loop μ-loop) where
   head = p .before .before .before
 
   abbrev q : tie.Start Inv-loop μ-loop
-  q = entry head
+  q = start head
 
-  abbrev from : ℕ
-  from = 65 * q .args .u + 1
+  abbrev e : ℕ
+  e = p .number2 .result
 
-  abbrev n : ℕ
-  n = head .loop .at - from
-
-  more : n < many (now (q .args .lowers)) (q .args .u)
+  more : n head < many (lowers q) (u q)
   more = omega (arith, p .before .before .loop-test .taken, head .before .number .ensures .0, head .loop .inv .0)
 
-  edge : p .number2 .result ≡ getD (now (q .args .lowers)) (from + n) 0
-  edge = let z : head .loop .at ≡ from + n = omega (arith, head .loop .inv .0) in p .number2 .ensures .0 ∙ ap (λ (j : ℕ). getD (now (q .args .lowers)) j 0) z
+  edge : e ≡ getD (lowers q) (65 * u q + 1 + n head) 0
+  edge = let z : head .loop .at ≡ 65 * u q + 1 + n head = omega (arith, head .loop .inv .0) in p .number2 .ensures .0 ∙ ap (λ (j : ℕ). getD (lowers q) j 0) z
 
-  counted : p .number2 .result < J q .edgeCount
-  counted = omega (arith, edge, exists (J q) (now (q .args .nodes)) (now (q .args .edges)) (now (q .args .positions)) (q .args .u) (now (q .args .lowers)) (indexed q) (low q) more)
+  exists : e < q .args .view .edges
+  exists = omega (arith, edge, q .pre .0 .indexed .inside (u q) (n head) (low q) more, q .pre .0 .seen .viewed .edges)
+
+  ends : I q .high e ≡ u q
+  ends = ap (I q .high) edge ∙ thing-keyed (q .pre .0 .indexed) (u q) (low q) more
 
 mul-start : tie.Need-mul-start Inv-loop μ-loop
-mul-start c = omega (arith, node (c .before))
+mul-start c = omega (arith, low (c .before))
 
 element-copy-out-start : tie.Need-element-copy-out-start Inv-loop μ-loop
-element-copy-out-start c = omega (arith, node (c .before))
+element-copy-out-start c = low (c .before)
 
-shared-slice-read-wide : tie.Need-shared-slice-read-wide Inv-loop μ-loop
-shared-slice-read-wide c = omega (arith, node (c .before .before .before))
-
-wide-requires : tie.Need-wide-requires Inv-loop μ-loop
-wide-requires c κs = search needs
+degree-of-requires : tie.Need-degree-of-requires Inv-loop μ-loop
+degree-of-requires c κs = let q = c .before .before in (q .pre .0 .seen .viewed .readable, node q)
 
 add-end : tie.Need-add-end Inv-loop μ-loop
-add-end c = omega (arith, room c, node (c .before .before .before .before))
-
-slice-aggregate-add-cells : tie.Need-slice-aggregate-add-cells Inv-loop μ-loop
-slice-aggregate-add-cells c = search needs
+add-end c = omega (arith, room c, short (entry c))
 
 mul-add-cells : tie.Need-mul-add-cells Inv-loop μ-loop
-mul-add-cells c = omega (arith, room (c .before), node (c .before .before .before .before .before))
+mul-add-cells c = omega (arith, room (c .before), short (entry (c .before)))
 
 sub-add-cells : tie.Need-sub-add-cells Inv-loop μ-loop
 sub-add-cells c = omega arith
@@ -120,59 +157,53 @@ part-add-cells-start : tie.Need-part-add-cells-start Inv-loop μ-loop
 part-add-cells-start c = omega arith
 
 part-add-cells-end : tie.Need-part-add-cells-end Inv-loop μ-loop
-part-add-cells-end c = omega (arith, room (c .before))
+part-add-cells-end c = room (c .before)
 
 add-cells-requires : tie.Need-add-cells-requires Inv-loop μ-loop
 add-cells-requires c κs =
     let p = c .before .before in
-    let q = c .before .before .before .before .before .before in
-    let nodes = now (q .args .nodes) in (
-      rw (read p, length-part nodes (first (J q) (q .args .u)) (J q .degree (q .args .u)) (node q .room)) (node q .few),
-      (λ i. zeros-within i, within-part filmOut (begin p) (begin p + p .wide .result - begin p) nodes (q .pre .0 .nodesSmall)),
-    )
+    let q = entry p in
+    (rw (read p, length-part (nodes q) (first (I q) (u q)) (I q .degree (u q)) (inside q)) (proper (s q) (q .pre .0 .seen .viewed .readable) .few (u q) (node q)), (λ i. zeros-within i, within-part costLimit (begin p) (begin p + p .degree-of .result - begin p) (nodes q) (q .pre .0 .nodeCosts .range)))
 
 mul-row : tie.Need-mul-row Inv-loop μ-loop
-mul-row c = omega (arith, low (c .before .before .before .before .before .before .before .before))
+mul-row c = omega (arith, low (c .before .before .before .before .before .before .before))
 
 add-past : tie.Need-add-past Inv-loop μ-loop
-add-past c = omega (arith, low (c .before .before .before .before .before .before .before .before))
+add-past c = omega (arith, low (c .before .before .before .before .before .before .before))
 
 mul-number : tie.Need-mul-number Inv-loop μ-loop
-mul-number c = omega (arith, low (c .before .before .before .before .before .before .before .before))
+mul-number c = omega (arith, low (c .before .before .before .before .before .before .before))
 
 element-copy-out-number : tie.Need-element-copy-out-number Inv-loop μ-loop
-element-copy-out-number c = omega (arith, low (c .before .before .before .before .before .before .before .before))
-
-number-requires : tie.Need-number-requires Inv-loop μ-loop
-number-requires c κs = search needs
+element-copy-out-number c = omega (arith, low (c .before .before .before .before .before .before .before))
 
 add-past-2 : tie.Need-add-past-2 Inv-loop μ-loop
-add-past-2 c = omega (arith, low (c .before .before .before .before .before .before .before .before .before .before), c .number .ensures .1)
+add-past-2 c = omega (arith, low (c .before .before .before .before .before .before .before .before .before), c .number .ensures .1)
 
 add-at : tie.Need-add-at Inv-loop μ-loop
-add-at c = omega (arith, low (c .before .before .before .before .before .before .before .before .before .before))
+add-at c = omega (arith, low (c .before .before .before .before .before .before .before .before .before))
 
 loop-holds : tie.Need-loop-holds Inv-loop μ-loop
+unfolding range
 loop-holds c =
-    let p = c .before .before .before .before .before .before in
-    let q = c .before .before .before .before .before .before .before .before .before .before in
-    let z : 65 * q .args .u + 1 - (65 * q .args .u + 1) ≡ 0 = omega arith in
-    let k = keyed-none (J q) (now (q .args .nodes)) (now (q .args .edges)) (now (q .args .positions)) (q .args .u) (now (q .args .lowers))
-    (c .before .before .before .add-cells .ensures ∙ ap (added (replicate 16 (pos 0))) (read p)
-    ∙ keys-first (J q) (now (q .args .nodes)) (now (q .args .edges)) (now (q .args .positions)) (q .args .u) (node q .room)) in
-    (omega arith, omega arith, subst (λ (m : ℕ). Keyed (J q) (now (q .args .nodes)) (now (q .args .edges)) (now (q .args .positions)) (q .args .u) (now (q .args .lowers)) m (c .before .before .before .add-cells .last .0)) (sym z) k)
+    let a = c .before .before .before in
+    let p = a .before .before .before in
+    let q = entry p in
+    let z : 65 * u q + 1 - (65 * u q + 1) ≡ 0 = omega arith in (
+      omega arith,
+      omega arith,
+      a .add-cells .ensures ∙ ap (added (replicate 16 (pos 0))) (read p) ∙ keys-first (I q) (nodes q) (edges q) (x q) (u q) (inside q)
+          ∙ ap (λ (m : ℕ). keysOver (I q) (nodes q) (edges q) (x q) (u q) (map (λ j. getD (lowers q) j 0) (range (65 * u q + 1) m))) (sym z),
+    )
 
-inside : (t : tie.In-loop Inv-loop μ-loop) → t .before .loop .at < 4160
-inside t = let q = entry (t .before) in omega (arith, t .loop-test .taken, t .before .before .number .ensures .0, indexed q .few (q .args .u) (low q), low q)
+reach : (t : tie.In-loop Inv-loop μ-loop) → t .before .loop .at < 4160
+reach t = let r = start (t .before) in omega (arith, t .loop-test .taken, t .before .before .number .ensures .0, row-few r, low r)
 
 mul-number-2 : tie.Need-mul-number-2 Inv-loop μ-loop
-mul-number-2 c = omega (arith, inside c)
+mul-number-2 c = omega (arith, reach c)
 
 element-copy-out-number-2 : tie.Need-element-copy-out-number-2 Inv-loop μ-loop
-element-copy-out-number-2 c = inside c
-
-number-requires-2 : tie.Need-number-requires-2 Inv-loop μ-loop
-number-requires-2 c κs = search needs
+element-copy-out-number-2 c = reach c
 
 slice-aggregate-add-edge : tie.Need-slice-aggregate-add-edge Inv-loop μ-loop
 slice-aggregate-add-edge c = sym (long (c .before .before .before .before))
@@ -180,15 +211,11 @@ slice-aggregate-add-edge c = sym (long (c .before .before .before .before))
 add-edge-requires : tie.Need-add-edge-requires Inv-loop μ-loop
 add-edge-requires c κs =
     let p = c .before in
-    let t = head p in
-    let s = q p in
-    let k = sofar t in (
-      edge-asked (s .pre .0) (s .pre .1 .0) (s .pre .1 .1 .0) (counted p),
-      (long t, rw (k .are) (keys-small (J s) (now (s .args .nodes)) (now (s .args .edges)) (now (s .args .positions)) (s .args .u) (s .pre .0 .nodesSmall) (s .pre .0 .edgesSmall) (k .upto) (omega (arith, k .inside, proper (s .pre .0 .seen .known) .edgesFew)))),
-    )
+    let r = q p in
+    ((r .pre .0 .seen .viewed, r .pre .0 .seen .tabled, r .pre .0 .edgeCosts), ((r .pre .1 .1, exists p, ends p), (long (head p), small (head p))))
 
 add-at-2 : tie.Need-add-at-2 Inv-loop μ-loop
-add-at-2 c = let p = c .before .before .before in omega (arith, low (q p), more p, indexed (q p) .few (q p .args .u) (low (q p)))
+add-at-2 c = let p = c .before .before .before in omega (arith, low (q p), more p, row-few (q p))
 
 loop-less : tie.Need-loop-less Inv-loop μ-loop
 loop-less c = let p = c .before .before .before in omega (arith, more p)
@@ -196,28 +223,23 @@ loop-less c = let p = c .before .before .before in omega (arith, more p)
 loop-again : tie.Need-loop-again Inv-loop μ-loop
 loop-again c =
     let p = c .before .before .before in
-    let t = head p in
-    let s = q p in
-    let a = s .args in
-    let nodes = now (a .nodes) in
-    let edges = now (a .edges) in
-    let x = now (a .positions) in
-    let asked = edge-asked (s .pre .0) (s .pre .1 .0) {x = x} (s .pre .1 .1 .0) (counted p) in
-    let next = c .before .add-edge .last .1 .1 .1 .1 .1 .1 .1 .0 in
-    let z : n p + 1 ≡ t .loop .at + 1 - from p = omega (arith, t .loop .inv .0) in
-    let e = edge p in
-    let k = keyed-next (J s) nodes edges x (a .u) (now (a .lowers)) (indexed s) (low s) (more p) (sofar t)
-    (c .before .add-edge .ensures ∙ ap (λ (m : ℕ). edgeAdded (J s) edges x (a .u) m (t .loop .keys)) e)
-    (subst (λ (m : ℕ). J s .high m ≡ a .u → table (J s) m + J s .degree (J s .high m) * position x (J s .low m) + J s .degree (J s .high m) ≤ length edges) e (row-room asked)) in
-    (omega (arith, t .loop .inv .0), omega (arith, more p, t .loop .inv .0), subst (λ (m : ℕ). Keyed (J s) nodes edges x (a .u) (now (a .lowers)) m next) z k)
+    let h = head p in
+    let r = q p in
+    let z : n h + 1 ≡ h .loop .at + 1 - (65 * u r + 1) = omega (arith, h .loop .inv .0) in (
+      omega (arith, h .loop .inv .0),
+      omega (arith, more p, h .loop .inv .0),
+      c .before .add-edge .ensures ∙ ap (λ (k : List ℤ). added k (rowOf (I r) (edges r) (x r) (e p))) (h .loop .inv .2)
+          ∙ keys-next (I r) (nodes r) (edges r) (x r) (u r) (sofar h) (e p) (ends p) (row-room (r .pre .0 .seen .viewed) (r .pre .0 .edgeCosts) (x r) (r .pre .1 .1) (exists p) (ends p))
+          ∙ ap (keysOver (I r) (nodes r) (edges r) (x r) (u r)) (ap (λ (d : ℕ). sofar h ++ d ∷ []) (edge p) ∙ sym (things-more (r .pre .0 .indexed) (u r) (low r) (n h)) ∙ ap (things (r .pre .0 .indexed) (u r) (low r)) z),
+    )
 
 returns : tie.Need-returns Inv-loop μ-loop
 returns c =
-    let t = c .before in
-    let s = entry t in
-    let a = s .args in
-    let e : t .loop .at - (65 * a .u + 1) ≡ many (now (a .lowers)) (a .u) = omega (arith, t .loop .inv .0, t .loop .inv .1, c .loop-test .left, t .before .number .ensures .0) in
-    keyed-end (J s) (now (a .nodes)) (now (a .edges)) (now (a .positions)) (a .u) (now (a .lowers)) (indexed s) (low s) (sofar t) e
+    let h = c .before in
+    let r = start h in
+    let z : n h ≡ many (lowers r) (u r) = omega (arith, h .loop .inv .0, h .loop .inv .1, c .loop-test .left, h .before .number .ensures .0) in
+    h .loop .inv .2 ∙ ap (keysOver (I r) (nodes r) (edges r) (x r) (u r)) (ap (things (r .pre .0 .indexed) (u r) (low r)) z ∙ r .pre .0 .indexed .rows (u r) (low r))
+    ∙ keys-all (I r) (nodes r) (edges r) (x r) (u r)
 
 pub keys-of-spec : {M : Type 1} → statement M
 keys-of-spec =
@@ -227,10 +249,9 @@ keys-of-spec =
     μ-loop
     mul-start
     element-copy-out-start
-    shared-slice-read-wide
-    wide-requires
+    degree-of-requires
     add-end
-    slice-aggregate-add-cells
+    (λ c. search needs)
     mul-add-cells
     sub-add-cells
     part-add-cells-start
@@ -240,13 +261,13 @@ keys-of-spec =
     add-past
     mul-number
     element-copy-out-number
-    number-requires
+    (λ c κs. search needs)
     add-past-2
     add-at
     loop-holds
     mul-number-2
     element-copy-out-number-2
-    number-requires-2
+    (λ c κs. search needs)
     slice-aggregate-add-edge
     add-edge-requires
     add-at-2

@@ -1,30 +1,36 @@
--- `in_range` meets its contract, by the two ends of the range.
-use mathlib.Core.Path.{sym, ap, _∙_}
-use lib.Signed.{leZ}
-use mir.Facts.{toZ-ofZ}
-use Rattle.integers.proofs.Places.{by-test}
-use lib.IntN.{ℤ, pos}
-use Rattle.integers.proofs.Parts.{linear, sub}
-use Rattle.integers.proofs.Bits.{read}
-use Rattle.rules.specs.Calls.{filmOut}
-use Rattle.messages.proofs.RowLaws.{within-over, within-under, within-both}
+-- `in_range` meets its contract: below 0 the size of a cost is 0 less its bits, and else it is its bits.
+use Prim.Native.Nat.{ℕ, _+_, _%_, _^_}
+use mathlib.Core.Path.{_≡_, sym, ap, _∙_}
+use native.Mathlib.Omega.{arith}
 use borrow.Author.Needs.{needs}
+use lib.Dec.{leb}
+use mir.Syntax.{w64}
+use mir.Val.{ofZ}
+use mir.Facts.{toZ-ofZ}
+use Rattle.integers.specs.Checks.{within}
+use Rattle.integers.proofs.Parts.{linear}
+use Rattle.integers.proofs.Bits.{read}
+use Rattle.messages.proofs.ExcessLaws.{bits-above, bits-size}
 use Rattle.messages.proofs.rows.in_range.Statement.{statement}
 use Rattle.messages.proofs.rows.in_range.Tie as tie
 
-sub-if1 : tie.Need-sub-if1
-sub-if1 c = search needs
+bits : (c : tie.After-bits-of) → c .bits-of .result ≡ ofZ w64 (c .before .args .cost)
+bits c = c .bits-of .ensures ∙ ap (ofZ w64) (toZ-ofZ (c .before .fits .cost))
 
 returns : tie.Need-returns
-returns c = sym (within-under filmOut (c .before .args .cost) (omega (linear, read (c .before .fits .cost), sub (pos 0) (pos filmOut))))
+unfolding within
+returns c =
+    let b = c .before .before in
+    let q = b .before in
+    let y = c .wrapping-sub-u64 .result in
+    ap (λ (n : ℕ). leb n (q .args .limit))
+    (bits-size (q .args .cost) (q .fits .cost) (omega (linear, read (q .fits .cost))) y (omega arith) (ap (λ (n : ℕ). (y + n) % 2 ^ 64) (sym (bits b)) ∙ c .wrapping-sub-u64 .ensures))
 
 returns-2 : tie.Need-returns-2
+unfolding within
 returns-2 c =
-    let x = c .before .args .cost in
-    let e = toZ-ofZ (c .before .fits .cost) in
-    ap (λ (z : ℤ). leZ z (pos filmOut)) e
-    ∙ by-test (leZ x (pos filmOut)) (λ t. t ∙ sym (within-both filmOut x (omega (linear, read (c .before .fits .cost), sub (pos 0) (pos filmOut))) (omega linear)))
-    (λ t. t ∙ sym (within-over filmOut x (omega linear)))
+    let q = c .before .before in
+    ap (λ (n : ℕ). leb n (q .args .limit)) (bits (c .before) ∙ sym (bits-above (q .args .cost) (omega (linear, read (q .fits .cost)))))
 
 pub in-range-spec : {M : Type 1} → statement M
-in-range-spec = tie.close (tie.spec sub-if1 returns returns-2)
+in-range-spec = tie.close (tie.spec (λ c κs. search needs) (λ c κs. search needs) returns returns-2)

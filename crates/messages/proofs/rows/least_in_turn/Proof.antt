@@ -11,7 +11,7 @@ use mir.Val.{toZ}
 use mir.Facts.{toZ-ofZ}
 use Rattle.integers.specs.Least.{leastFrom}
 use Rattle.integers.proofs.Least.{least-step, least-done}
-use Rattle.integers.proofs.Bits.{same}
+use Rattle.integers.proofs.Bits.{answer}
 use Rattle.messages.proofs.rows.least_in_turn.Statement.{statement}
 use Rattle.messages.proofs.rows.least_in_turn.Tie as tie
 
@@ -21,25 +21,13 @@ Inv-loop row start best₀ i₀ best i = (i ≤ length row) × (leastFrom (toZ w
 abbrev μ-loop : tie.MeasureT-loop
 μ-loop row start best₀ i₀ best i = length row - i
 
-loop-holds : tie.Need-loop-holds Inv-loop μ-loop
-loop-holds c = search needs
-
-less-at-requires : tie.Need-less-at-requires Inv-loop μ-loop
-less-at-requires c κs = search needs
-
-add-i : tie.Need-add-i Inv-loop μ-loop
-add-i c = search needs
-
-loop-less : tie.Need-loop-less Inv-loop μ-loop
-loop-less c = search needs
-
 loop-again : tie.Need-loop-again Inv-loop μ-loop
 loop-again c =
     let p = c .before .before in
     let s = now (p .before .args .row) in
     let i = p .loop .i in (
       search needs,
-      ap (λ (z : ℤ). leastFrom z (drop (i + 1) s)) (same (c .less-at .result) (c .less-at .ok) ∙ c .less-at .ensures) ∙ least-step (toZ w64 (p .loop .best)) s i (pos 0) (omega arith)
+      ap (λ (z : ℤ). leastFrom z (drop (i + 1) s)) (answer (c .less-at .ok) (c .less-at .ensures)) ∙ least-step (toZ w64 (p .loop .best)) s i (pos 0) (omega arith)
           ∙ p .loop .inv .1,
     )
 
@@ -50,4 +38,4 @@ returns c =
     ∙ ap (λ (z : ℤ). leastFrom z s) (toZ-ofZ (c .before .before .fits .start))
 
 pub least-in-turn-spec : {M : Type 1} → statement M
-least-in-turn-spec = tie.close (tie.spec Inv-loop μ-loop loop-holds less-at-requires add-i loop-less loop-again returns)
+least-in-turn-spec = tie.close (tie.spec Inv-loop μ-loop (λ c. search needs) (λ c κs. search needs) (λ c. search needs) (λ c. search needs) loop-again returns)

@@ -6,24 +6,15 @@ use lib.IntN.{pos}
 use denote.Ref.{now}
 use mir.Facts.{toZ-ofZ}
 use Rattle.integers.specs.Least.{minℤ}
-use Rattle.integers.proofs.Bits.{same}
+use Rattle.integers.proofs.Bits.{same, answer}
 use Rattle.messages.proofs.rows.less_at.Statement.{statement}
 use Rattle.messages.proofs.rows.less_at.Tie as tie
-
-mul-smaller : tie.Need-mul-smaller
-mul-smaller c = search needs
-
-shared-slice-copy-out-smaller : tie.Need-shared-slice-copy-out-smaller
-shared-slice-copy-out-smaller c = search needs
-
-smaller-requires : tie.Need-smaller-requires
-smaller-requires c κs = search needs
 
 returns : tie.Need-returns
 returns c =
     let q = c .before .before in
-    same (c .smaller .result) (c .smaller .ok) ∙ c .smaller .ensures
+    answer (c .smaller .ok) (c .smaller .ensures)
     ∙ ap₂ minℤ (same (getD (now (q .args .row)) (q .args .i) (pos 0)) (c .before .smaller-arg .given)) (toZ-ofZ (q .fits .best))
 
 pub less-at-spec : {M : Type 1} → statement M
-less-at-spec = tie.close (tie.spec mul-smaller shared-slice-copy-out-smaller smaller-requires returns)
+less-at-spec = tie.close (tie.spec (λ c. search needs) (λ c. search needs) (λ c κs. search needs) returns)

@@ -6,9 +6,8 @@ use borrow.Author.Needs.{needs}
 use mir.Syntax.{w64}
 use mir.Facts.{toZ-ofZ}
 use Rattle.integers.specs.Share.{share}
-use Rattle.integers.proofs.Share.{share-quot, share-toward, fits}
+use Rattle.integers.proofs.Share.{share-quot, share-toward, share-one, fits}
 use Rattle.integers.proofs.Bits.{low}
-use Rattle.messages.proofs.LeastLaws.{share-one}
 use Rattle.messages.proofs.rows.share_of.Statement.{statement}
 use Rattle.messages.proofs.rows.share_of.Tie as tie
 
@@ -16,9 +15,6 @@ returns : tie.Need-returns
 returns c =
     let q = c .before in
     toZ-ofZ (q .fits .d) ∙ sym (ap (λ (r : ℕ). share (q .args .d) r) (c .if1 .taken) ∙ share-one (q .args .d))
-
-cast-result : tie.Need-cast-result
-cast-result c = search needs
 
 div-result : tie.Need-div-result
 div-result c =
@@ -32,4 +28,4 @@ returns-2 c =
     toZ-ofZ (div-result c .1) ∙ rw (toZ-ofZ (q .fits .d), low w64 (q .args .r) (omega arith)) (share-quot (q .args .d) (q .args .r))
 
 pub share-of-spec : {M : Type 1} → statement M
-share-of-spec = tie.close (tie.spec returns cast-result div-result returns-2)
+share-of-spec = tie.close (tie.spec returns (λ c. search needs) div-result returns-2)
