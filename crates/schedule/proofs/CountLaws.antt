@@ -13,6 +13,14 @@ use lib.ListN.{length}
 use Rattle.integers.specs.Places.{range, select, offset}
 use Rattle.integers.proofs.Places.{by-test}
 
+-- what rises at each number rises however far apart
+pub climbs : (f : ℕ → ℕ) (n : ℕ) → ((x : ℕ) → suc x < n → f x < f (suc x)) → (i j : ℕ) → i < j → j < n → f i < f j
+climbs f n up i zero h b = absurd (not-suc-le-zero h)
+climbs f n up i (suc j) h b =
+    let s = up j b in
+    by-test (eqb i j) (λ e. let q = ap f (eqb-true i j e) in omega arith)
+    (λ e. let q : i ≡ j → ⊥ = eqb-false i j e in let r = climbs f n up i j (omega arith) (omega arith) in omega arith)
+
 -- ---- numbers with a test, at which f rises, from a up to below b
 
 pub select-few : (t : ℕ → Bool) (f : ℕ → ℕ) (e m a b : ℕ) → a ≤ b

@@ -3,9 +3,9 @@
 use mathlib.Core.Path.{_≡_, refl, sym, ap, ap₂, _∙_}
 use mathlib.Core.Bool.{Bool, true, _&&_, _||_, or-true}
 use mathlib.Core.List.{List, [], _∷_, _++_, map}
-use mathlib.Core.List.{List·Memᴰ as Mem, List·Memᴰ·head as here, List·Memᴰ·tail as there, List·Memᴰ·not-nil as not-nil}
+use mathlib.Core.List.{List·Memᴰ as Mem, List·Memᴰ·head as here, List·Memᴰ·tail as there}
 use mathlib.Core.Logic.{_⊎_}
-use Prim.Native.Nat.{ℕ, zero, suc, _+_, _-_, _*_, _/_, _%_, _≤_, _<_}
+use Prim.Native.Nat.{ℕ, _+_, _-_, _*_, _/_, _%_, _≤_, _<_}
 use native.Mathlib.Nat.{div-add-mod, mul-mod-right}
 use native.Mathlib.Omega.{arith}
 use borrow.Author.Tests.{eq-eqb, eqb-true, le-leb, lt-ltb}
@@ -26,7 +26,7 @@ use Rattle.rules.proofs.Legal.{legalKind, legal, legal-run-refused}
 use Rattle.schedule.specs.Sweep.{Entry, entry, bytes, each, falling, fromEdges, toEdges, toLabels, fromLabel, rounding, toLower, toHigher, positions, labelled, forwardAt, forward, labelAt, backwardAt, backward, sweep}
 use Rattle.schedule.specs.Written.{sweepRefusal, sweepOf}
 use Rattle.schedule.proofs.WritingLaws.{length-bytes}
-use Rattle.schedule.proofs.Lengths.{mem-below, higher-few, lower-few}
+use Rattle.schedule.proofs.Lengths.{mem-below, falling-mem, higher-few, lower-few}
 use Rattle.schedule.proofs.Written.{unrefused-readable}
 
 -- ---- five bytes are one record
@@ -62,12 +62,6 @@ module _ (t : Entry → Bool) where
   unfolding toEdges every
   every-shares u q [] h k f = refl
   every-shares u q (e ∷ l) h k f = and-both (f e q (here refl) (omega arith) k) (every-shares u (q - 1) l (omega arith) (omega arith) (λ e r m. f e r (there m)))
-
-falling-mem : (n : ℕ) {i : ℕ} → Mem i (falling n) → i < n
-unfolding falling
-falling-mem zero m = absurd (not-nil m)
-falling-mem (suc n) (here e) = omega arith
-falling-mem (suc n) (there m) = let h = falling-mem n m in omega arith
 
 -- ---- the records of a sweep
 

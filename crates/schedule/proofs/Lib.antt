@@ -3,6 +3,8 @@ pub mod Agrees
 pub mod WritingLaws
 pub mod CountLaws
 pub mod Lengths
+pub mod LabelLaws
+pub mod SpotLaws
 pub mod Sight
 pub mod Written
 pub mod Legal

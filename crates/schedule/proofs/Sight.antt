@@ -1,90 +1,165 @@
--- What is known of a sheet that was read and not refused: the edges and the labels of its nodes, byte by byte.
+-- What is known of a sheet that was read and not refused: its edges and its labels, as the indexes have them.
 -- Assumes nothing.
-use mathlib.Core.Path.{_≡_, refl, ap, _∙_, fun-ext}
-use mathlib.Core.Bool.{Bool}
-use mathlib.Core.List.{List}
-use Prim.Native.Nat.{ℕ, _+_, _*_, _≤_, _<_}
+use mathlib.Core.Path.{_≡_, sym, ap, ap₂, _∙_}
+use mathlib.Core.List.{List, map}
+use Prim.Native.Nat.{ℕ, _+_, _-_, _*_, _/_, _%_, _≤_, _<_}
+use native.Mathlib.Nat.{mul-add-div, mul-add-mod-self-left, div-eq-of-lt, mod-eq-of-lt}
 use native.Mathlib.Omega.{arith}
-use lib.Dec.{eqb}
-use lib.ListN.{length, getD}
-use Rattle.integers.specs.Places.{range, select}
+use lib.ListN.{length, getD, take, drop}
+use Rattle.integers.specs.Places.{range, offset}
 use Rattle.instance.specs.Bytes.{byte}
-use Rattle.instance.specs.Instance.{Instance, first}
-use Rattle.instance.specs.Sheet.{instanceOf, nodesOf, endsAt}
+use Rattle.instance.specs.Instance.{Instance, first, nodeCells}
+use Rattle.instance.specs.Sheet.{instanceOf, endsAt}
 use Rattle.instance.specs.Readable.{Proper, Readable}
 use Rattle.instance.proofs.Readable.{readable}
-use Rattle.instance.proofs.LaidOut.{row-inside}
-use Rattle.schedule.specs.Sweep.{each, fromLabel, toLower, toHigher, positions, labelled, labelAt}
-use Rattle.schedule.specs.Writing.{Known, Begun, ended, having}
-use Rattle.schedule.proofs.Lengths.{higher-few, lower-few}
+use Rattle.instance.proofs.LaidOut.{positions-few}
+use Rattle.index.specs.Index.{indexOf, many, held, Indexed}
+use Rattle.index.proofs.Indexed.{indexed-part, many-is}
+use Rattle.schedule.specs.declared.sweep.Counts.{Counts}
+use Rattle.schedule.specs.Sweep.{entry, each, falling, fromLabel, toLower, toHigher, positions, forwardAt, labelAt, backwardAt}
+use Rattle.schedule.specs.Writing.{Rows, Spots, Swept, edgesBy, spotted, forwardBy, backwardBy, labelBy}
+use Rattle.schedule.proofs.WritingLaws.{each-ext}
+use Rattle.schedule.proofs.Lengths.{mem-below, falling-mem, higher-any, lower-few}
+use Rattle.schedule.proofs.LabelLaws.{label-list, labels-few}
 
--- two tests that agree at each number
-same-tests : {s t : ℕ → Bool} (l : List ℕ) → ((i : ℕ) → s i ≡ t i) → select s l ≡ select t l
-same-tests l h = ap (λ (t : ℕ → Bool). select t l) (fun-ext h)
+-- an index whose things are few
+pub rows-of : {key : ℕ → ℕ} {m bound : ℕ} {index : List ℕ} → Indexed key m index → m ≤ bound → Rows index bound
+rows-of x h = record { few = x .few; inside = λ l j a b. let i = x .inside l j a b in omega arith }
 
-module _ {s : List ℕ} {n ends edges : ℕ} (w : Known s n ends edges) where
+-- a place's two numbers
+spot-is : (spots : List ℕ) (i u k : ℕ) → u < 256 → getD spots i 0 ≡ 256 * k + u → spotted spots i ≡ entry 4 u k 1
+spot-is spots i u k h e =
+    let some : 0 < 256 = omega arith in
+    let q : (256 * k + u) % 256 ≡ u = mul-add-mod-self-left 256 k u ∙ mod-eq-of-lt h in
+    let d : (256 * k + u) / 256 ≡ k = mul-add-div some k u ∙ ap (_+_ k) (div-eq-of-lt h) ∙ omega arith in
+    ap₂ (λ (a b : ℕ). entry 4 a b 1) (ap (λ (x : ℕ). x % 256) e ∙ q) (ap (λ (x : ℕ). x / 256) e ∙ d)
+
+module _ {s : List ℕ} {c : Counts} (w : Swept s c) where
   abbrev I : Instance
   I = instanceOf s
 
-  pub whole : Readable s
+  abbrev n : ℕ
+  n = c .nodes
+
+  whole : Readable s
   whole = readable s (w .readable)
 
-  pub proper : Proper I
+  proper : Proper I
   proper = whole .proper
 
   pub nodes-few : n ≤ 64
   nodes-few = omega (arith, w .nodes, proper .nodesFew)
 
-  pub edges-few : edges ≤ 256
-  edges-few = omega (arith, w .all, proper .edgesFew)
+  -- the counts' limits
+  pub sizes : (n ≤ 64) × (c .edges ≤ 256) × (c .positions ≤ 1024)
+  sizes = (nodes-few, omega (arith, w .edges, proper .edgesFew), omega (arith, w .positions, positions-few proper))
 
-  pub node-byte : {u : ℕ} → u < n → u < length s
-  node-byte {u} h = omega (arith, w .nodes, whole .whole)
+  pub labels-64 : c .labels ≤ 64
+  labels-64 = omega (arith, w .labels, proper .labelsFew)
 
-  pub end-bytes : ends + 1 + 2 * edges ≤ length s
+  pub places-few : offset (byte s) n ≤ 1024
   unfolding first instanceOf
-  end-bytes = omega (arith, w .place, w .all, whole .whole)
+  places-few = omega (arith, ap (offset (byte s)) (w .nodes), positions-few proper)
 
-  pub higher-is : (u : ℕ) → ended s ends edges u ≡ toHigher I u
-  unfolding ended toHigher instanceOf
-  higher-is u =
-      ap (λ (m : ℕ). select (λ e. eqb (byte s (ends + 2 * e)) u) (range 0 m)) (w .all)
-      ∙ same-tests (range 0 (I .edgeCount)) (λ e. ap (λ (a : ℕ). eqb (byte s (a + 2 * e)) u) (w .place))
+  -- the sections' bytes
+  pub node-bytes : n ≤ length s
+  node-bytes = omega (arith, w .nodes, whole .whole)
 
-  pub lower-is : (u : ℕ) → ended s (ends + 1) edges u ≡ toLower I u
-  unfolding ended toLower instanceOf
-  lower-is u =
-      ap (λ (m : ℕ). select (λ e. eqb (byte s (ends + 1 + 2 * e)) u) (range 0 m)) (w .all)
-      ∙ same-tests (range 0 (I .edgeCount)) (λ e. let q : ends + 1 + 2 * e ≡ endsAt s + 2 * e + 1 = omega (arith, w .place) in ap (λ (a : ℕ). eqb (byte s a) u) q)
+  pub label-bytes : n + c .positions ≤ length s
+  label-bytes = omega (arith, w .nodes, w .positions, whole .whole)
 
-  -- at most 63 each
-  pub few-higher : {u : ℕ} → u < n → length (toHigher I u) ≤ 63
-  few-higher {u} h = let k = nodes-few in let b : u < I .nodeCount = omega (arith, w .nodes) in omega (arith, higher-few I proper b, w .nodes)
+  pub end-bytes : n + 5 * c .positions + 1 + 2 * c .edges ≤ length s
+  end-bytes = omega (arith, w .nodes, w .positions, w .edges, whole .whole)
 
-  pub few-lower : {u : ℕ} → u < n → length (toLower I u) ≤ 63
-  few-lower {u} h = omega (arith, lower-few I proper u, nodes-few)
+  ends-at : n + 5 * c .positions ≡ endsAt s
+  unfolding first instanceOf
+  ends-at = omega (arith, w .nodes, w .positions)
 
-  pub degree-is : (u : ℕ) → byte s u ≡ I .degree u
+  -- ---- the edges by their higher ends, and by their lower
+
+  pub lower-indexed : Indexed (I .high) (I .edgeCount) (edgesBy s c 1)
+  unfolding instanceOf toLower
+  lower-indexed =
+      let from = n + 5 * c .positions + 1 in
+      indexed-part s from (2 * c .edges) 2 end-bytes (omega (arith, w .edges)) (omega (arith, w .edges)) (omega (arith, proper .edgesFew))
+      (λ i h. let e : from + 2 * i ≡ endsAt s + 2 * i + 1 = omega (arith, ends-at) in ap (byte s) e)
+      (λ l h. let f = lower-few I proper l in omega arith)
+
+  pub higher-indexed : Indexed (I .low) (I .edgeCount) (edgesBy s c 0)
+  unfolding instanceOf toHigher
+  higher-indexed =
+      let from = n + 5 * c .positions + 0 in
+      indexed-part s from (2 * c .edges) 2 (omega (arith, end-bytes)) (omega (arith, w .edges)) (omega (arith, w .edges)) (omega (arith, proper .edgesFew))
+      (λ i h. let e : from ≡ endsAt s = omega (arith, ends-at) in ap (λ (a : ℕ). byte s (a + 2 * i)) e)
+      (λ l h. let f = higher-any I proper l in omega (arith, proper .nodesFew))
+
+  module _ {lower higher : List ℕ} (x : Indexed (I .high) (I .edgeCount) lower) (y : Indexed (I .low) (I .edgeCount) higher) where
+    -- at most 64 edges of a node
+    pub lower-rows : Rows lower 256
+    lower-rows = rows-of x (proper .edgesFew)
+
+    pub higher-rows : Rows higher 256
+    higher-rows = rows-of y (proper .edgesFew)
+
+    -- a node's edges
+    module _ {u : ℕ} (h : u < 64) where
+      lower-is : held lower u ≡ toLower I u
+      unfolding toLower
+      lower-is = x .rows u h
+
+      higher-is : held higher u ≡ toHigher I u
+      unfolding toHigher
+      higher-is = y .rows u h
+
+      many-lower : many lower u ≡ length (toLower I u)
+      unfolding toLower
+      many-lower = many-is x u h
+
+      many-higher : many higher u ≡ length (toHigher I u)
+      unfolding toHigher
+      many-higher = many-is y u h
+
+      forward-node : forwardBy s lower higher u ≡ forwardAt I u
+      unfolding forwardAt positions instanceOf
+      forward-node = rw (lower-is, higher-is, many-higher)
+
+      backward-node : backwardBy lower higher u ≡ backwardAt I u
+      unfolding backwardAt
+      backward-node = let z : length (toLower I u) + 0 ≡ length (toLower I u) = omega arith in rw (higher-is, lower-is, many-lower, z)
+
+    pub forward-nodes : each (forwardBy s lower higher) (range 0 n) ≡ each (forwardAt I) (range 0 (I .nodeCount))
+    forward-nodes =
+        each-ext (forwardBy s lower higher) (forwardAt I) (range 0 n) (λ u m. let b = mem-below m in let f = nodes-few in forward-node (omega arith))
+        ∙ ap (λ (k : ℕ). each (forwardAt I) (range 0 k)) (w .nodes)
+
+    pub backward-nodes : each (backwardBy lower higher) (falling n) ≡ each (backwardAt I) (falling (I .nodeCount))
+    backward-nodes =
+        each-ext (backwardBy lower higher) (backwardAt I) (falling n) (λ u m. let b = falling-mem n m in let f = nodes-few in backward-node (omega arith))
+        ∙ ap (λ (k : ℕ). each (backwardAt I) (falling k)) (w .nodes)
+
+  -- ---- the places by their labels
+
+  pub places-indexed : Indexed (I .label) (nodeCells I) (indexOf (take (c .positions) (drop n s)) 1)
   unfolding instanceOf
-  degree-is u = refl
+  places-indexed =
+      indexed-part s n (c .positions) 1 label-bytes (omega (arith, w .positions)) (omega (arith, w .positions)) (omega (arith, positions-few proper))
+      (λ i h. let e : n + 1 * i ≡ I .nodeCount + i = omega (arith, w .nodes) in ap (byte s) e)
+      (λ l h. let f = labels-few I l proper in omega (arith, proper .nodesFew))
 
-  pub degree-few : {u : ℕ} → u < n → byte s u ≤ 16
-  degree-few {u} h = omega (arith, degree-is u, proper .few u (omega (arith, w .nodes)))
+  module _ {places spots : List ℕ} (x : Indexed (I .label) (nodeCells I) places) (m : Spots (byte s) n spots) where
+    pub place-rows : Rows places 1024
+    place-rows = rows-of x (positions-few proper)
 
-  -- a label's list, node by node
-  pub label-rows : (l : ℕ) → each (λ u. fromLabel u (labelled I l u)) (range 0 n) ≡ labelAt I l
-  unfolding labelAt
-  label-rows l = ap (λ (m : ℕ). each (λ u. fromLabel u (labelled I l u)) (range 0 m)) (w .nodes)
+    label-is : {l : ℕ} → l < 64 → labelBy places spots l ≡ labelAt I l
+    unfolding labelAt fromLabel first instanceOf
+    label-is {l} h =
+        let f = nodes-few in
+        ap (map (spotted spots)) (x .rows l h)
+        ∙ sym (label-list I l (spotted spots) (λ u k. entry 4 u k 1) (I .nodeCount) (λ u k b d.
+        spot-is spots (first I u + k) u k (omega (arith, proper .nodesFew)) (m .at u k (omega (arith, w .nodes)) d)))
 
-  -- the labels of a node
-  module _ {starts : List ℕ} (b : Begun s starts) {u : ℕ} (h : u < n) where
-    start-is : getD starts u 0 ≡ first I u
-    start-is = b .at u (omega (arith, w .nodes))
-
-    pub label-bytes : n + getD starts u 0 + byte s u ≤ length s
-    label-bytes = omega (arith, start-is, degree-is u, row-inside proper {u = u} (omega (arith, w .nodes)), w .nodes, whole .whole)
-
-    pub labelled-is : (l : ℕ) → having s (n + getD starts u 0) (byte s u) l ≡ labelled I l u
-    unfolding having labelled positions instanceOf
-    labelled-is l =
-        same-tests (range 0 (byte s u)) (λ k. let q : n + getD starts u 0 + k ≡ nodesOf s + (first I u + k) = omega (arith, start-is, w .nodes) in ap (λ (a : ℕ). eqb (byte s a) l) q)
+    pub label-lists : each (labelBy places spots) (falling (c .labels)) ≡ each (labelAt I) (falling (I .labelCount))
+    label-lists =
+        let f = labels-64 in
+        each-ext (labelBy places spots) (labelAt I) (falling (c .labels)) (λ l b. let d = falling-mem (c .labels) b in label-is (omega arith))
+        ∙ ap (λ (k : ℕ). each (labelAt I) (falling k)) (w .labels)

@@ -1,16 +1,19 @@
 -- Writing records one after another: a buffer in which some are still to be written, turn by turn.
 -- Assumes nothing.
 use mathlib.Core.Path.{_≡_, refl, sym, ap, ap₂, subst, _∙_}
-use mathlib.Core.Bool.{Bool, true, false}
-use mathlib.Core.List.{List, [], _∷_, _++_, map, append-nil}
-use Prim.Native.Nat.{ℕ, zero, suc, _+_, _-_, _*_, _/_, _%_, _≤_, _<_}
+use mathlib.Core.List.{List, [], _∷_, _++_, map, append-nil, append-assoc}
+use mathlib.Core.List.{List·Memᴰ as Mem, List·Memᴰ·head as here, List·Memᴰ·tail as there}
+use Prim.Native.Nat.{ℕ, suc, _+_, _-_, _*_, _/_, _%_, _≤_, _<_}
 use native.Mathlib.Numerals.{add-one}
 use native.Mathlib.Omega.{arith}
-use lib.ListN.{length, set, length-append, drop-of-length-le}
+use lib.ListN.{length, getD, set, length-append, drop-of-length-le}
 use lib.Seq.{sets, sets-eq, length-sets}
-use Rattle.integers.specs.Places.{range, select}
-use Rattle.schedule.specs.Sweep.{Entry, entry, bytes, each, falling, toEdges}
-use Rattle.schedule.specs.Writing.{Writing, Wrote, Room}
+use Rattle.integers.specs.Places.{range}
+use Rattle.integers.proofs.Ranges.{range-add}
+use Rattle.index.specs.Index.{many, held}
+use Rattle.index.proofs.Lists.{length-map, length-range}
+use Rattle.schedule.specs.Sweep.{Entry, entry, bytes, each, falling, fromEdges, toEdges}
+use Rattle.schedule.specs.Writing.{Writing, Wrote, Room, received, sent, spotted, labelBy}
 
 -- ---- bytes
 
@@ -31,19 +34,23 @@ sets-append out at (b ∷ k) l = let e : suc at + length k ≡ at + suc (length 
 
 -- ---- how many records
 
-pub length-map : (f : ℕ → Entry) (l : List ℕ) → length (map f l) ≡ length l
-length-map f [] = refl
-length-map f (i ∷ l) = ap suc (length-map f l)
-
-pub length-range : (a n : ℕ) → length (range a n) ≡ n
-unfolding range
-length-range a zero = refl
-length-range a (suc n) = ap suc (length-range (suc a) n)
+pub length-held : (index : List ℕ) (l : ℕ) → length (held index l) ≡ many index l
+length-held index l = length-map (λ p. getD index p 0) (range (65 * l + 1) (many index l)) ∙ length-range (65 * l + 1) (many index l)
 
 pub length-toEdges : (u q : ℕ) (l : List ℕ) → length (toEdges u q l) ≡ length l
 unfolding toEdges
 length-toEdges u q [] = refl
 length-toEdges u q (e ∷ l) = ap suc (length-toEdges u _ l)
+
+pub length-received : (edges : List ℕ) (u : ℕ) → length (received edges u) ≡ many edges u
+unfolding fromEdges
+length-received edges u = length-map (λ e. entry 2 u e 1) (held edges u) ∙ length-held edges u
+
+pub length-sent : (edges : List ℕ) (more u : ℕ) → length (sent edges more u) ≡ many edges u
+length-sent edges more u = length-toEdges u (many edges u + more) (held edges u) ∙ length-held edges u
+
+pub length-label : (places spots : List ℕ) (l : ℕ) → length (labelBy places spots l) ≡ many places l
+length-label places spots l = length-map (spotted spots) (held places l) ∙ length-held places l
 
 pub room-as : {out : List ℕ} {at a b : ℕ} → a ≡ b → Room out at a → Room out at b
 room-as e r = record { fits = omega (arith, e, r .fits) }
@@ -81,6 +88,13 @@ module _ {out₀ : List ℕ} {at₀ : ℕ} {whole : List Entry} {out : List ℕ}
   -- there is room for it
   pub writing-room : (k l : List Entry) → Writing out₀ at₀ whole out at (k ++ l) → Room out₀ at₀ (length whole) → Room out at (length k)
   writing-room k l w h = record { fits = omega (arith, w .place, writing-size (k ++ l) w, length-append k l, h .fits) }
+
+  -- the same of one record
+  pub turn-room : {x : Entry} {k l : List Entry} → Writing out₀ at₀ whole out at k → k ≡ x ∷ l → Room out₀ at₀ (length whole) → Room out at 1
+  turn-room {x} {k} {l} w e r = writing-room (x ∷ []) l (writing-as e w) r
+
+  pub turn-more : {x : Entry} {k l : List Entry} {out′ : List ℕ} {at′ : ℕ} → Writing out₀ at₀ whole out at k → k ≡ x ∷ l → Wrote out at (x ∷ []) out′ at′ → Writing out₀ at₀ whole out′ at′ l
+  turn-more {x} {k} {l} w e v = writing-more (x ∷ []) l (writing-as e w) v
 
 -- ---- one list after another
 
@@ -135,6 +149,24 @@ unfolding range
 onward-end {n} {i} h = let e : n - i ≡ 0 = omega arith in ap (range i) e
 
 -- the lists of each
+pub each-append : (f : ℕ → List Entry) (k l : List ℕ) → each f (k ++ l) ≡ each f k ++ each f l
+unfolding each
+each-append f [] l = refl
+each-append f (i ∷ k) l = ap (λ (r : List Entry). f i ++ r) (each-append f k l) ∙ sym (append-assoc (f i) (each f k) (each f l))
+
+pub each-next : (f : ℕ → List Entry) (n : ℕ) → each f (range 0 (suc n)) ≡ each f (range 0 n) ++ f n
+unfolding each range
+each-next f n =
+    let e : suc n ≡ n + 1 = omega arith in
+    let z : 0 + n ≡ n = omega arith in
+    ap (λ (m : ℕ). each f (range 0 m)) e ∙ ap (each f) (range-add 0 n 1 ∙ ap (λ (a : ℕ). range 0 n ++ range a 1) z) ∙ each-append f (range 0 n) (range n 1)
+    ∙ ap (λ (r : List Entry). each f (range 0 n) ++ r) (append-nil (f n))
+
+pub each-ext : (f g : ℕ → List Entry) (l : List ℕ) → ((i : ℕ) → Mem i l → f i ≡ g i) → each f l ≡ each g l
+unfolding each
+each-ext f g [] h = refl
+each-ext f g (i ∷ l) h = ap₂ _++_ (h i (here refl)) (each-ext f g l (λ j m. h j (there m)))
+
 pub each-more : (f : ℕ → List Entry) {n i : ℕ} → i < n → each f (onward n i) ≡ f i ++ each f (onward n (i + 1))
 unfolding each
 each-more f h = ap (each f) (onward-more h)
@@ -150,72 +182,37 @@ each-falling f e = ap (λ (k : ℕ). each f (falling k)) e
 pub falling-none : (f : ℕ → List Entry) (n : ℕ) → each f (falling n) ≡ each f (falling (n - 0))
 falling-none f n = let e : n ≡ n - 0 = omega arith in ap (λ (k : ℕ). each f (falling k)) e
 
--- one that passes a test, and one that does not
-pub select-hit : (t : ℕ → Bool) {n i : ℕ} → i < n → t i ≡ true → select t (onward n i) ≡ i ∷ select t (onward n (i + 1))
-unfolding select
-select-hit t h e = ap (select t) (onward-more h) ∙ rw e
+-- ---- a row of an index from its j-th thing on
 
-pub select-miss : (t : ℕ → Bool) {n i : ℕ} → i < n → t i ≡ false → select t (onward n i) ≡ select t (onward n (i + 1))
-unfolding select
-select-miss t h e = ap (select t) (onward-more h) ∙ rw e
+abbrev pub rest : List ℕ → ℕ → ℕ → List ℕ
+rest index l j = map (λ p. getD index p 0) (range (65 * l + 1 + j) (many index l - j))
 
-pub select-end : (t : ℕ → Bool) {n i : ℕ} → n ≤ i → select t (onward n i) ≡ []
-unfolding select
-select-end t h = ap (select t) (onward-end h)
+pub rest-start : (index : List ℕ) (l : ℕ) → held index l ≡ rest index l 0
+rest-start index l =
+    let e : 65 * l + 1 ≡ 65 * l + 1 + 0 = omega arith in
+    let d : many index l ≡ many index l - 0 = omega arith in
+    ap₂ (λ (a n : ℕ). map (λ p. getD index p 0) (range a n)) e d
 
--- ---- a loop that writes f of each number that passes a test
+pub rest-more : (index : List ℕ) (l j : ℕ) → j < many index l → rest index l j ≡ getD index (65 * l + 1 + j) 0 ∷ rest index l (j + 1)
+unfolding range
+rest-more index l j h =
+    let e : many index l - j ≡ suc (many index l - (j + 1)) = omega arith in
+    let d : suc (65 * l + 1 + j) ≡ 65 * l + 1 + (j + 1) = omega arith in
+    ap (λ (n : ℕ). map (λ p. getD index p 0) (range (65 * l + 1 + j) n)) e
+    ∙ ap (λ (a : ℕ). getD index (65 * l + 1 + j) 0 ∷ map (λ p. getD index p 0) (range a (many index l - (j + 1)))) d
 
-module _ (t : ℕ → Bool) (f : ℕ → Entry) where
-  pub turns-start : (n : ℕ) (out : List ℕ) (at : ℕ) → Writing out at (map f (select t (range 0 n))) out at (map f (select t (onward n 0)))
-  turns-start n out at = writing-as (ap (λ (l : List ℕ). map f (select t l)) (onward-start n)) (writing-start out at (map f (select t (range 0 n))))
+pub rest-end : (index : List ℕ) (l j : ℕ) → many index l ≤ j → rest index l j ≡ []
+unfolding range
+rest-end index l j h = let e : many index l - j ≡ 0 = omega arith in ap (λ (n : ℕ). map (λ p. getD index p 0) (range (65 * l + 1 + j) n)) e
 
-  module _ {out₀ : List ℕ} {at₀ : ℕ} {whole : List Entry} {out : List ℕ} {at n i : ℕ} (w : Writing out₀ at₀ whole out at (map f (select t (onward n i)))) where
-    pub turns-room : i < n → t i ≡ true → Room out₀ at₀ (length whole) → Room out at 1
-    turns-room h e r = writing-room (f i ∷ []) (map f (select t (onward n (i + 1)))) (writing-as (ap (map f) (select-hit t h e)) w) r
-
-    pub turns-hit : {out′ : List ℕ} {at′ : ℕ} → i < n → t i ≡ true → Wrote out at (f i ∷ []) out′ at′ → Writing out₀ at₀ whole out′ at′ (map f (select t (onward n (i + 1))))
-    turns-hit h e v = writing-more (f i ∷ []) (map f (select t (onward n (i + 1)))) (writing-as (ap (map f) (select-hit t h e)) w) v
-
-    pub turns-miss : i < n → t i ≡ false → Writing out₀ at₀ whole out at (map f (select t (onward n (i + 1))))
-    turns-miss h e = writing-as (ap (map f) (select-miss t h e)) w
-
-    pub turns-end : n ≤ i → Wrote out₀ at₀ whole out at
-    turns-end h = writing-as (ap (map f) (select-end t h)) w
-
--- ---- the same with shares that fall
-
-module _ (t : ℕ → Bool) (u : ℕ) where
-  pub shares-start : (q n : ℕ) (out : List ℕ) (at : ℕ) → Writing out at (toEdges u q (select t (range 0 n))) out at (toEdges u q (select t (onward n 0)))
-  shares-start q n out at = writing-as (ap (λ (l : List ℕ). toEdges u q (select t l)) (onward-start n)) (writing-start out at (toEdges u q (select t (range 0 n))))
-
-  module _ {out₀ : List ℕ} {at₀ : ℕ} {whole : List Entry} {out : List ℕ} {at n i : ℕ} (q : ℕ) (w : Writing out₀ at₀ whole out at (toEdges u q (select t (onward n i)))) where
-    first : i < n → t i ≡ true → Writing out₀ at₀ whole out at ((entry 1 u i q ∷ []) ++ toEdges u (q - 1) (select t (onward n (i + 1))))
-    unfolding toEdges
-    first h e = writing-as (ap (toEdges u q) (select-hit t h e)) w
-
-    pub shares-room : i < n → t i ≡ true → Room out₀ at₀ (length whole) → Room out at 1
-    shares-room h e r = writing-room (entry 1 u i q ∷ []) (toEdges u (q - 1) (select t (onward n (i + 1)))) (first h e) r
-
-    pub shares-hit : {out′ : List ℕ} {at′ : ℕ} → i < n → t i ≡ true → Wrote out at (entry 1 u i q ∷ []) out′ at′ → Writing out₀ at₀ whole out′ at′ (toEdges u (q - 1) (select t (onward n (i + 1))))
-    shares-hit h e v = writing-more (entry 1 u i q ∷ []) (toEdges u (q - 1) (select t (onward n (i + 1)))) (first h e) v
-
-    pub shares-miss : i < n → t i ≡ false → Writing out₀ at₀ whole out at (toEdges u q (select t (onward n (i + 1))))
-    shares-miss h e = writing-as (ap (toEdges u q) (select-miss t h e)) w
-
-    pub shares-end : n ≤ i → Wrote out₀ at₀ whole out at
-    unfolding toEdges
-    shares-end h = writing-as (ap (toEdges u q) (select-end t h)) w
-
--- ---- how many pass a test, and of those left at least one where the next one does
-
-pub counted-hit : (t : ℕ → Bool) {n i : ℕ} → i < n → t i ≡ true → length (select t (onward n i)) ≡ suc (length (select t (onward n (i + 1))))
-counted-hit t h e = ap length (select-hit t h e)
-
-pub counted-miss : (t : ℕ → Bool) {n i : ℕ} → i < n → t i ≡ false → length (select t (onward n i)) ≡ length (select t (onward n (i + 1)))
-counted-miss t h e = ap length (select-miss t h e)
-
-pub counted-end : (t : ℕ → Bool) {n i : ℕ} → n ≤ i → length (select t (onward n i)) ≡ 0
-counted-end t h = ap length (select-end t h)
+-- with shares that fall along it
+pub shares-more : (index : List ℕ) (u j more : ℕ) → j < many index u
+    → toEdges u (many index u - j + more) (rest index u j) ≡ entry 1 u (getD index (65 * u + 1 + j) 0) (many index u - j + more) ∷ toEdges u (many index u - (j + 1) + more) (rest index u (j + 1))
+unfolding toEdges
+shares-more index u j more h =
+    let e : many index u - j + more - 1 ≡ many index u - (j + 1) + more = omega arith in
+    let x = getD index (65 * u + 1 + j) 0 in
+    ap (toEdges u (many index u - j + more)) (rest-more index u j h) ∙ ap (λ (q : ℕ). entry 1 u x (many index u - j + more) ∷ toEdges u q (rest index u (j + 1))) e
 
 -- ---- a loop that writes a list for each number, rising or falling
 

@@ -1,12 +1,17 @@
 // Records between a node and its labels: kinds 3 and 4.
 use crate::put::put;
-use crate::put::wide;
-ghost use Prim.Native.Nat.{_+_, _≤_, _<_};
+use crate::row::many;
+use crate::row::thing;
+use index::number;
+use index::wide;
+ghost use mathlib.Core.Path.{_≡_};
+ghost use Prim.Native.Nat.{_+_, _*_, _≤_, _<_};
 ghost use lib.ListN.{length};
-ghost use Rattle.integers.specs.Places.{range};
-ghost use Rattle.instance.specs.Sheet.{instanceOf};
-ghost use Rattle.schedule.specs.Sweep.{each, falling, toLabels, fromLabel, labelAt};
-ghost use Rattle.schedule.specs.Writing.{Wrote, Room, Known, Begun, having};
+ghost use Rattle.integers.specs.Places.{range, offset};
+ghost use Rattle.instance.specs.Bytes.{byte};
+ghost use Rattle.index.specs.Index.{many as manyOf};
+ghost use Rattle.schedule.specs.Sweep.{each, falling, toLabels};
+ghost use Rattle.schedule.specs.Writing.{Wrote, Room, Rows, Marked, Spots, labelBy};
 
 // Kind 3 with share 1 at each position.
 pub(crate) fn to_labels(degree: usize, u: usize, out: &mut [u8], at: usize) -> usize
@@ -23,80 +28,86 @@ pub(crate) fn to_labels(degree: usize, u: usize, out: &mut [u8], at: usize) -> u
     next
 }
 
-// Kind 4 with share 1 where node `u`, whose labels stand from `from` on, has the label.
-fn from_label_at(
-    sheet: &[u8],
-    from: usize,
-    degree: usize,
-    u: usize,
-    label: usize,
-    out: &mut [u8],
-    at: usize,
-) -> usize
-    requires { ⌜ (from + degree ≤ length (now sheet)) × (degree ≤ 256) × (u < 256) ⌝ }
-    requires { ⌜ Room (now out) at (length (having (now sheet) from degree label)) ⌝ }
-    ensures { λ r. ⌜ Wrote (now (out .entry)) at (fromLabel u (having (now (sheet .entry)) from degree label)) (now (out .exit)) r ⌝ }
+fn spot(u: usize, k: usize) -> u16
+    requires { ⌜ (u < 256) × (k < 256) ⌝ }
+    ensures { λ r. ⌜ r ≡ 256 * k + u ⌝ }
 {
-    let mut next = at;
-    let mut k = 0;
-    while k < degree {
-        if wide(sheet[from + k]) == label {
-            next = put(out, next, 4, u, k, 1);
-        }
-        k += 1;
-    }
-    next
+    256 * (k as u16) + u as u16
 }
 
-// The same at each node, rising.
+// Marks the places of one node, from `at` on; answers the place after them.
+fn mark(spots: &mut [u16; 1024], at: usize, degree: usize, u: usize) -> usize
+    requires { ⌜ (length (now spots) ≡ 1024) × (at + degree ≤ 1024) × (degree < 256) × (u < 256) ⌝ }
+    ensures { λ r. ⌜ r ≡ at + degree ⌝ }
+    ensures { λ _. ⌜ Marked (now (spots .entry)) at u degree (now (spots .exit)) ⌝ }
+{
+    let mut k = 0;
+    while k < degree {
+        spots[at + k] = spot(u, k);
+        k += 1;
+    }
+    at + degree
+}
+
+// The node of each place and, 256 times, the position there.
+pub(crate) fn spots(sheet: &[u8], n: usize) -> [u16; 1024]
+    requires { ⌜ (n ≤ length (now sheet)) × (n ≤ 64) × (offset (byte (now sheet)) n ≤ 1024) ⌝ }
+    ensures { λ r. ⌜ Spots (byte (now (sheet .entry))) n r ⌝ }
+{
+    let mut spots = [0u16; 1024];
+    let mut at = 0;
+    let mut u = 0;
+    while u < n {
+        at = mark(&mut spots, at, wide(sheet[u]), u);
+        u += 1;
+    }
+    spots
+}
+
+// Kind 4 with share 1 at each place that has the label.
 fn from_label(
-    sheet: &[u8],
-    n: usize,
-    ends: usize,
-    edges: usize,
-    starts: &[usize; 64],
+    places: &[u16; 4160],
+    spots: &[u16; 1024],
     label: usize,
     out: &mut [u8],
     at: usize,
 ) -> usize
-    requires { ⌜ Known (now sheet) n ends edges ⌝ }
-    requires { ⌜ Begun (now sheet) (now starts) ⌝ }
-    requires { ⌜ Room (now out) at (length (labelAt (instanceOf (now sheet)) label)) ⌝ }
-    ensures { λ r. ⌜ Wrote (now (out .entry)) at (labelAt (instanceOf (now (sheet .entry))) label) (now (out .exit)) r ⌝ }
+    requires { ⌜ Rows (now places) 1024 ⌝ }
+    requires { ⌜ label < 64 ⌝ }
+    requires { ⌜ Room (now out) at (manyOf (now places) label) ⌝ }
+    ensures { λ r. ⌜ Wrote (now (out .entry)) at (labelBy (now (places .entry)) (now (spots .entry)) label) (now (out .exit)) r ⌝ }
 {
+    let many = many(places, label);
     let mut next = at;
-    let mut u = 0;
-    while u < n {
-        let from = n + starts[u];
-        let degree = wide(sheet[u]);
-        next = from_label_at(sheet, from, degree, u, label, out, next);
-        u += 1;
+    let mut j = 0;
+    while j < many {
+        let place = thing(places, label, j);
+        let spot = number(spots[place]);
+        next = put(out, next, 4, spot % 256, spot / 256, 1);
+        j += 1;
     }
     next
 }
 
 // The same for each label, falling.
 pub(crate) fn from_labels(
-    sheet: &[u8],
-    n: usize,
-    ends: usize,
-    edges: usize,
-    starts: &[usize; 64],
+    places: &[u16; 4160],
+    spots: &[u16; 1024],
     labels: usize,
     out: &mut [u8],
     at: usize,
 ) -> usize
-    requires { ⌜ Known (now sheet) n ends edges ⌝ }
-    requires { ⌜ Begun (now sheet) (now starts) ⌝ }
-    requires { ⌜ Room (now out) at (length (each (labelAt (instanceOf (now sheet))) (falling labels))) ⌝ }
-    ensures { λ r. ⌜ Wrote (now (out .entry)) at (each (labelAt (instanceOf (now (sheet .entry)))) (falling labels)) (now (out .exit)) r ⌝ }
+    requires { ⌜ Rows (now places) 1024 ⌝ }
+    requires { ⌜ labels ≤ 64 ⌝ }
+    requires { ⌜ Room (now out) at (length (each (labelBy (now places) (now spots)) (falling labels))) ⌝ }
+    ensures { λ r. ⌜ Wrote (now (out .entry)) at (each (labelBy (now (places .entry)) (now (spots .entry))) (falling labels)) (now (out .exit)) r ⌝ }
 {
     let mut next = at;
     let mut passed = 0;
     while passed < labels {
         passed += 1;
         let label = labels - passed;
-        next = from_label(sheet, n, ends, edges, starts, label, out, next);
+        next = from_label(places, spots, label, out, next);
     }
     next
 }

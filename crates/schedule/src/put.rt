@@ -25,10 +25,3 @@ pub(crate) fn put(
     out[at + 4] = share as u8;
     at + 5
 }
-
-// A byte as a number.
-pub(crate) fn wide(x: u8) -> usize
-    ensures { λ r. ⌜ (r ≡ x) × (r < 256) ⌝ }
-{
-    x as usize
-}

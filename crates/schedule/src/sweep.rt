@@ -1,82 +1,102 @@
 // The two sweeps, and the public call.
-use crate::edges::count_edges;
 use crate::edges::from_edges;
 use crate::edges::to_edges;
 use crate::labels::from_labels;
+use crate::labels::spots;
 use crate::labels::to_labels;
 use crate::put::put;
-use crate::put::wide;
+use index::index_by;
+use index::wide;
 use messages::read;
 use messages::refusal::BUFFER_LENGTH;
 use messages::refusal::NO_SUCH_RECORD;
 use messages::refusal::NONE;
 ghost use mathlib.Core.Path.{_≡_};
-ghost use Prim.Native.Nat.{_<_};
+ghost use Prim.Native.Nat.{_<_, _≤_};
 ghost use lib.ListN.{length};
 ghost use Rattle.integers.specs.Places.{range};
 ghost use Rattle.instance.specs.Sheet.{instanceOf};
-ghost use Rattle.schedule.specs.Sweep.{each, falling, bytes, forwardAt, forward as forwardList, backwardAt, backward as backwardList};
+ghost use Rattle.index.specs.Index.{Indexed};
+ghost use Rattle.schedule.specs.Sweep.{labelAt, each, falling, bytes, forward as forwardList, backward as backwardList};
 ghost use Rattle.schedule.specs.Written.{written, sweepOf};
-ghost use Rattle.schedule.specs.Writing.{Wrote, Room, Known, Begun};
+ghost use Rattle.schedule.specs.Writing.{Wrote, Room, Rows, Swept, edgesBy, forwardBy, backwardBy};
+
+// n, L, E and N of a sheet.
+struct Counts {
+    nodes: usize,
+    labels: usize,
+    edges: usize,
+    positions: usize,
+}
+
+// The edges by their lower (0) or by their higher (1) ends.
+fn edges_by(sheet: &[u8], counts: Counts, end: usize) -> [u16; 4160]
+    requires { ⌜ Swept (now sheet) counts ⌝ }
+    requires { ⌜ end ≤ 1 ⌝ }
+    ensures { λ r. ⌜ r ≡ edgesBy (now (sheet .entry)) counts end ⌝ }
+{
+    let from = counts.nodes + 5 * counts.positions + end;
+    let past = from + 2 * counts.edges;
+    index_by(&sheet[from..past], 2)
+}
 
 // Node `u` in a forward sweep: from its edges to lower nodes, to those to higher nodes, to its labels.
 fn forward_at(
     sheet: &[u8],
-    n: usize,
-    ends: usize,
-    edges: usize,
+    lower: &[u16; 4160],
+    higher: &[u16; 4160],
     u: usize,
     out: &mut [u8],
     at: usize,
 ) -> usize
-    requires { ⌜ Known (now sheet) n ends edges ⌝ }
-    requires { ⌜ u < n ⌝ }
-    requires { ⌜ Room (now out) at (length (forwardAt (instanceOf (now sheet)) u)) ⌝ }
-    ensures { λ r. ⌜ Wrote (now (out .entry)) at (forwardAt (instanceOf (now (sheet .entry))) u) (now (out .exit)) r ⌝ }
+    requires { ⌜ Rows (now lower) 256 ⌝ }
+    requires { ⌜ Rows (now higher) 256 ⌝ }
+    requires { ⌜ (u < 64) × (u < length (now sheet)) ⌝ }
+    requires { ⌜ Room (now out) at (length (forwardBy (now sheet) (now lower) (now higher) u)) ⌝ }
+    ensures { λ r. ⌜ Wrote (now (out .entry)) at (forwardBy (now (sheet .entry)) (now (lower .entry)) (now (higher .entry)) u) (now (out .exit)) r ⌝ }
 {
-    let share = count_edges(sheet, ends, edges, u) + 1;
-    let received = from_edges(sheet, ends + 1, edges, u, out, at);
-    let sent = to_edges(sheet, ends, edges, u, share, out, received);
+    let received = from_edges(lower, u, out, at);
+    let sent = to_edges(higher, u, 1, out, received);
     to_labels(wide(sheet[u]), u, out, sent)
 }
 
 // Node `u` in a backward sweep: from its edges to higher nodes, to those to lower nodes.
 fn backward_at(
-    sheet: &[u8],
-    n: usize,
-    ends: usize,
-    edges: usize,
+    lower: &[u16; 4160],
+    higher: &[u16; 4160],
     u: usize,
     out: &mut [u8],
     at: usize,
 ) -> usize
-    requires { ⌜ Known (now sheet) n ends edges ⌝ }
-    requires { ⌜ u < n ⌝ }
-    requires { ⌜ Room (now out) at (length (backwardAt (instanceOf (now sheet)) u)) ⌝ }
-    ensures { λ r. ⌜ Wrote (now (out .entry)) at (backwardAt (instanceOf (now (sheet .entry))) u) (now (out .exit)) r ⌝ }
+    requires { ⌜ Rows (now lower) 256 ⌝ }
+    requires { ⌜ Rows (now higher) 256 ⌝ }
+    requires { ⌜ u < 64 ⌝ }
+    requires { ⌜ Room (now out) at (length (backwardBy (now lower) (now higher) u)) ⌝ }
+    ensures { λ r. ⌜ Wrote (now (out .entry)) at (backwardBy (now (lower .entry)) (now (higher .entry)) u) (now (out .exit)) r ⌝ }
 {
-    let share = count_edges(sheet, ends + 1, edges, u);
-    let received = from_edges(sheet, ends, edges, u, out, at);
-    to_edges(sheet, ends + 1, edges, u, share, out, received)
+    let received = from_edges(higher, u, out, at);
+    to_edges(lower, u, 0, out, received)
 }
 
 // The nodes, rising.
 fn forward_nodes(
     sheet: &[u8],
     n: usize,
-    ends: usize,
-    edges: usize,
+    lower: &[u16; 4160],
+    higher: &[u16; 4160],
     out: &mut [u8],
     at: usize,
 ) -> usize
-    requires { ⌜ Known (now sheet) n ends edges ⌝ }
-    requires { ⌜ Room (now out) at (length (each (forwardAt (instanceOf (now sheet))) (range 0 n))) ⌝ }
-    ensures { λ r. ⌜ Wrote (now (out .entry)) at (each (forwardAt (instanceOf (now (sheet .entry)))) (range 0 n)) (now (out .exit)) r ⌝ }
+    requires { ⌜ Rows (now lower) 256 ⌝ }
+    requires { ⌜ Rows (now higher) 256 ⌝ }
+    requires { ⌜ (n ≤ 64) × (n ≤ length (now sheet)) ⌝ }
+    requires { ⌜ Room (now out) at (length (each (forwardBy (now sheet) (now lower) (now higher)) (range 0 n))) ⌝ }
+    ensures { λ r. ⌜ Wrote (now (out .entry)) at (each (forwardBy (now (sheet .entry)) (now (lower .entry)) (now (higher .entry))) (range 0 n)) (now (out .exit)) r ⌝ }
 {
     let mut next = at;
     let mut u = 0;
     while u < n {
-        next = forward_at(sheet, n, ends, edges, u, out, next);
+        next = forward_at(sheet, lower, higher, u, out, next);
         u += 1;
     }
     next
@@ -84,54 +104,62 @@ fn forward_nodes(
 
 // The nodes, falling.
 fn backward_nodes(
-    sheet: &[u8],
     n: usize,
-    ends: usize,
-    edges: usize,
+    lower: &[u16; 4160],
+    higher: &[u16; 4160],
     out: &mut [u8],
     at: usize,
 ) -> usize
-    requires { ⌜ Known (now sheet) n ends edges ⌝ }
-    requires { ⌜ Room (now out) at (length (each (backwardAt (instanceOf (now sheet))) (falling n))) ⌝ }
-    ensures { λ r. ⌜ Wrote (now (out .entry)) at (each (backwardAt (instanceOf (now (sheet .entry)))) (falling n)) (now (out .exit)) r ⌝ }
+    requires { ⌜ Rows (now lower) 256 ⌝ }
+    requires { ⌜ Rows (now higher) 256 ⌝ }
+    requires { ⌜ n ≤ 64 ⌝ }
+    requires { ⌜ Room (now out) at (length (each (backwardBy (now lower) (now higher)) (falling n))) ⌝ }
+    ensures { λ r. ⌜ Wrote (now (out .entry)) at (each (backwardBy (now (lower .entry)) (now (higher .entry))) (falling n)) (now (out .exit)) r ⌝ }
 {
     let mut next = at;
     let mut u = n;
     while 0 < u {
         u -= 1;
-        next = backward_at(sheet, n, ends, edges, u, out, next);
+        next = backward_at(lower, higher, u, out, next);
     }
     next
 }
 
-// The whole forward list.
-fn forward(sheet: &[u8], n: usize, ends: usize, edges: usize, out: &mut [u8])
-    requires { ⌜ Known (now sheet) n ends edges ⌝ }
+// The labels, falling.
+fn backward_labels(sheet: &[u8], counts: Counts, out: &mut [u8], at: usize) -> usize
+    requires { ⌜ Swept (now sheet) counts ⌝ }
+    requires { ⌜ Room (now out) at (length (each (labelAt (instanceOf (now sheet))) (falling (instanceOf (now sheet) .labelCount)))) ⌝ }
+    ensures { λ r. ⌜ Wrote (now (out .entry)) at (each (labelAt (instanceOf (now (sheet .entry)))) (falling (instanceOf (now (sheet .entry)) .labelCount))) (now (out .exit)) r ⌝ }
+{
+    let n = counts.nodes;
+    let prices = n + counts.positions;
+    let places = index_by(&sheet[n..prices], 1);
+    let spots = spots(sheet, n);
+    from_labels(&places, &spots, counts.labels, out, at)
+}
+
+// The whole forward list. `lower` has the edges by their higher ends.
+fn forward(sheet: &[u8], counts: Counts, lower: &[u16; 4160], out: &mut [u8])
+    requires { ⌜ Swept (now sheet) counts ⌝ }
+    requires { ⌜ Indexed (instanceOf (now sheet) .high) (instanceOf (now sheet) .edgeCount) (now lower) ⌝ }
     requires { ⌜ length (now out) ≡ length (bytes (forwardList (instanceOf (now sheet)))) ⌝ }
     ensures { λ _. ⌜ now (out .exit) ≡ bytes (forwardList (instanceOf (now (sheet .entry)))) ⌝ }
 {
-    let at = forward_nodes(sheet, n, ends, edges, out, 0);
+    let higher = edges_by(sheet, counts, 0);
+    let at = forward_nodes(sheet, counts.nodes, lower, &higher, out, 0);
     put(out, at, 5, 0, 0, 0);
 }
 
 // The whole backward list.
-fn backward(
-    sheet: &[u8],
-    n: usize,
-    ends: usize,
-    edges: usize,
-    starts: &[usize; 64],
-    labels: usize,
-    out: &mut [u8],
-)
-    requires { ⌜ Known (now sheet) n ends edges ⌝ }
-    requires { ⌜ Begun (now sheet) (now starts) ⌝ }
-    requires { ⌜ labels ≡ instanceOf (now sheet) .labelCount ⌝ }
+fn backward(sheet: &[u8], counts: Counts, lower: &[u16; 4160], out: &mut [u8])
+    requires { ⌜ Swept (now sheet) counts ⌝ }
+    requires { ⌜ Indexed (instanceOf (now sheet) .high) (instanceOf (now sheet) .edgeCount) (now lower) ⌝ }
     requires { ⌜ length (now out) ≡ length (bytes (backwardList (instanceOf (now sheet)))) ⌝ }
     ensures { λ _. ⌜ now (out .exit) ≡ bytes (backwardList (instanceOf (now (sheet .entry)))) ⌝ }
 {
-    let received = from_labels(sheet, n, ends, edges, starts, labels, out, 0);
-    let sent = backward_nodes(sheet, n, ends, edges, out, received);
+    let higher = edges_by(sheet, counts, 0);
+    let received = backward_labels(sheet, counts, out, 0);
+    let sent = backward_nodes(counts.nodes, lower, &higher, out, received);
     put(out, sent, 5, 0, 0, 0);
 }
 
@@ -146,17 +174,20 @@ pub fn write_sweep(sheet: &[u8], direction: u8, out: &mut [u8]) -> u8
     if 1 < direction {
         return NO_SUCH_RECORD;
     }
-    let n = layout.nodes;
-    let edges = layout.edges;
-    if out.len() != 5 * (2 * edges + layout.positions + 1) {
+    let counts = Counts {
+        nodes: layout.nodes,
+        labels: layout.labels,
+        edges: layout.edges,
+        positions: layout.positions,
+    };
+    if out.len() != 5 * (2 * counts.edges + counts.positions + 1) {
         return BUFFER_LENGTH;
     }
-    let ends = n + 5 * layout.positions;
+    let lower = edges_by(sheet, counts, 1);
     if direction == 0 {
-        forward(sheet, n, ends, edges, out);
+        forward(sheet, counts, &lower, out);
         return NONE;
     }
-    let starts = layout.starts;
-    backward(sheet, n, ends, edges, &starts, layout.labels, out);
+    backward(sheet, counts, &lower, out);
     NONE
 }

@@ -1,118 +1,91 @@
--- `to_edges` meets its contract: an edge's record is written where its end is u, with a share for each edge that is left at least.
-use mathlib.Core.Path.{_≡_, sym, ap, _∙_}
-use mathlib.Core.Bool.{Bool, true, false}
-use mathlib.Core.List.{List}
-use mathlib.Core.Logic.{⊎-elim}
-use Prim.Native.Nat.{ℕ, _+_, _-_, _*_, _≤_}
+-- `to_edges` meets its contract: a record for each edge of the row, with a share for each that is left.
+use mathlib.Core.Path.{_≡_, sym, ap, ap₂, _∙_}
+use mathlib.Core.List.{List, _∷_}
+use Prim.Native.Nat.{ℕ, _+_, _-_, _≤_, _<_}
 use native.Mathlib.Omega.{arith}
-use borrow.Author.Needs.{needs}
-use borrow.Author.Tests.{eq-eqb, ne-eqb}
 use denote.Ref.{now}
-use lib.Dec.{eqb}
-use lib.ListN.{length}
-use Rattle.integers.specs.Places.{select}
-use Rattle.instance.specs.Bytes.{byte}
-use Rattle.schedule.specs.Sweep.{toEdges}
-use Rattle.schedule.specs.Writing.{Writing, ended}
-use Rattle.schedule.proofs.WritingLaws.{onward, onward-start, length-toEdges, room-as, writing-size, shares-start, shares-room, shares-hit, shares-miss, shares-end, counted-hit, counted-miss}
+use Rattle.index.specs.Index.{many as manyOf}
+use Rattle.schedule.specs.Sweep.{Entry, entry, toEdges}
+use Rattle.schedule.specs.Writing.{Writing, sent}
+use Rattle.schedule.proofs.WritingLaws.{length-sent, room-as, writing-start, writing-as, writing-size, turn-room, turn-more, rest, rest-start, rest-end, shares-more}
 use Rattle.schedule.proofs.edges.to_edges.Statement.{statement}
 use Rattle.schedule.proofs.edges.to_edges.Tie as tie
 
--- whether the edge has u at this end
-abbrev t : List ℕ → ℕ → ℕ → ℕ → Bool
-t sheet from u e = eqb (byte sheet (from + 2 * e)) u
-
 abbrev Inv-loop : tie.InvT-loop
-Inv-loop sheet from edges u share out₀ at next₀ left₀ e₀ out next left e =
-    (e ≤ edges) × (left ≤ share) × (length (select (t sheet from u) (onward edges e)) ≤ left)
-    × Writing out₀ at (toEdges u share (ended sheet from edges u)) out next (toEdges u left (select (t sheet from u) (onward edges e)))
+Inv-loop edges u more out₀ at many next₀ j₀ out next j =
+    (j ≤ manyOf edges u) × Writing out₀ at (sent edges more u) out next (toEdges u (manyOf edges u - j + more) (rest edges u j))
 
 abbrev μ-loop : tie.MeasureT-loop
-μ-loop sheet from edges u share out₀ at next₀ left₀ e₀ out next left e = edges - e
+μ-loop edges u more out₀ at many next₀ j₀ out next j = many - j
 
-loop-holds : tie.Need-loop-holds Inv-loop μ-loop
-unfolding ended
-loop-holds c =
-    let q = c .before .before in
-    let a = q .args in
-    let g = t (now (a .sheet)) (a .from) (a .u) in (
-      omega arith,
-      omega arith,
-      omega (arith, q .pre .1 .0, ap (λ (l : List ℕ). length (select g l)) (onward-start (a .edges))),
-      shares-start g (a .u) (a .share) (a .edges) (now (a .out)) (a .at),
-    )
-
-mul-wide : tie.Need-mul-wide Inv-loop μ-loop
-mul-wide c = omega arith
-
-add-wide : tie.Need-add-wide Inv-loop μ-loop
-add-wide c = omega arith
-
-shared-slice-read-wide : tie.Need-shared-slice-read-wide Inv-loop μ-loop
-shared-slice-read-wide c = omega arith
-
-wide-requires : tie.Need-wide-requires Inv-loop μ-loop
-wide-requires c κs = search needs
-
--- the edge of this turn is one of u's
-module _ (c : tie.Then1 Inv-loop μ-loop) where
+-- an edge of the row
+module _ (p : tie.After-thing Inv-loop μ-loop) where
   abbrev i : tie.In-loop Inv-loop μ-loop
-  i = c .before .before .before
+  i = p .before .before
 
   abbrev q : tie.Start Inv-loop μ-loop
   q = i .before .before .before .before
 
-  abbrev g : ℕ → Bool
-  g = t (now (q .args .sheet)) (q .args .from) (q .args .u)
+  abbrev edges : List ℕ
+  edges = now (q .args .edges)
 
-  met : g (i .before .loop .e) ≡ true
-  met = eq-eqb _ _ (sym (c .before .wide .ensures .0) ∙ c .if1 .taken)
+  abbrev u : ℕ
+  u = q .args .u
 
-  some : 1 ≤ i .before .loop .left
-  some = omega (arith, counted-hit g (i .loop-test .taken) met, i .before .loop .inv .2)
+  abbrev j : ℕ
+  j = i .before .loop .j
+
+  abbrev left : ℕ → List Entry
+  left j = toEdges u (manyOf edges u - j + q .args .more) (rest edges u j)
+
+  more : j < manyOf edges u
+  more = omega (arith, i .loop-test .taken, i .before .before .many .ensures)
+
+  next : left j ≡ entry 1 u (p .thing .result) (i .before .before .many .result - j + q .args .more) ∷ left (j + 1)
+  next =
+      shares-more edges u j (q .args .more) more
+      ∙ ap₂ (λ (e m : ℕ). entry 1 u e (m - j + q .args .more) ∷ left (j + 1)) (sym (p .thing .ensures .0)) (sym (i .before .before .many .ensures))
+
+many-requires : tie.Need-many-requires Inv-loop μ-loop
+many-requires c κs = c .before .pre .0 .0
+
+loop-holds : tie.Need-loop-holds Inv-loop μ-loop
+loop-holds c =
+    let a = c .before .before .args in
+    let e : manyOf (now (a .edges)) (a .u) + a .more ≡ manyOf (now (a .edges)) (a .u) - 0 + a .more = omega arith in
+    (omega arith, writing-as (ap₂ (toEdges (a .u)) e (rest-start (now (a .edges)) (a .u))) (writing-start (now (a .out)) (a .at) (sent (now (a .edges)) (a .more) (a .u))))
+
+thing-requires : tie.Need-thing-requires Inv-loop μ-loop
+thing-requires c κs = let q = c .before .before .before .before .before in let m = c .before .before .before .many .ensures in (q .pre .0 .0, omega (arith, q .pre .0, c .before .loop-test .taken))
+
+sub-put : tie.Need-sub-put Inv-loop μ-loop
+sub-put c = let i = c .before .before in omega (arith, i .loop-test .taken)
+
+add-put : tie.Need-add-put Inv-loop μ-loop
+add-put c = let i = c .before .before in let q = i .before .before .before .before in omega (arith, i .before .before .many .ensures, q .pre .0)
 
 put-requires : tie.Need-put-requires Inv-loop μ-loop
 put-requires c κs =
-    let p = c .before in
-    let l = i p .before .loop in
-    (shares-room (g p) (q p .args .u) (l .left) (l .inv .3) (i p .loop-test .taken) (met p) (room-as (sym (length-toEdges (q p .args .u) (q p .args .share) (ended (now (q p .args .sheet)) (q p .args .from) (q p .args .edges) (q p .args .u)))) (q p .pre .1 .1)), (omega arith, omega arith, omega (arith, l .inv .1, q p .pre .1 .0)))
+    (turn-room (i c .before .loop .inv .1) (next c) (room-as (sym (length-sent (edges c) (q c .args .more) (u c))) (q c .pre .1)), (omega (arith, q c .pre .0), c .thing .ensures .1, omega (arith, q c .pre .0, i c .before .before .many .ensures)))
 
-sub-left : tie.Need-sub-left Inv-loop μ-loop
-sub-left c = omega (arith, some (c .before .before .before .before))
-
-add-e : tie.Need-add-e Inv-loop μ-loop
-add-e c = omega arith
+add-j : tie.Need-add-j Inv-loop μ-loop
+add-j c = let n = c .before .before .before .before .before in omega (arith, n .loop-test .taken, n .before .before .many .ensures, n .before .before .before .before .pre .0)
 
 loop-less : tie.Need-loop-less Inv-loop μ-loop
-loop-less c = omega arith
+loop-less c = let n = c .before .before .before .before .before in omega (arith, n .loop-test .taken)
 
 loop-again : tie.Need-loop-again Inv-loop μ-loop
-loop-again c =
-    let n = c .before .before .before in
-    let p = n .before in
-    let a = p .before .before .before .args in
-    let h = t (now (a .sheet)) (a .from) (a .u) in
-    let b = c .before .wide .ensures .0 in
-    let k = n .loop-test .taken in (
-      omega arith,
-      ⊎-elim (λ w. omega (arith, w .7, p .loop .inv .1)) (λ w. omega (arith, w .3, p .loop .inv .1)) (c .if1 .came),
-      ⊎-elim
-          (λ w. let m : h (p .loop .e) ≡ true = eq-eqb _ _ (sym b ∙ w .0 .taken) in omega (arith, w .7, counted-hit h k m, p .loop .inv .2))
-          (λ w. let m : h (p .loop .e) ≡ false = ne-eqb _ _ (λ z. w .0 .left (b ∙ z)) in omega (arith, w .3, counted-miss h k m, p .loop .inv .2))
-          (c .if1 .came),
-      ⊎-elim
-          (λ w. rw (w .5, w .6, w .7) (shares-hit h (a .u) (p .loop .left) (p .loop .inv .3) k (eq-eqb _ _ (sym b ∙ w .0 .taken)) (w .2 .ensures)))
-          (λ w. rw (w .1, w .2, w .3) (shares-miss h (a .u) (p .loop .left) (p .loop .inv .3) k (ne-eqb _ _ (λ z. w .0 .left (b ∙ z)))))
-          (c .if1 .came),
-    )
+loop-again c = let p = c .before .before .before in (omega (arith, more p), turn-more (i p .before .loop .inv .1) (next p) (c .before .before .put .ensures))
 
 same-length : tie.Need-same-length Inv-loop μ-loop
-same-length c = writing-size _ (c .before .loop .inv .3)
+same-length c = writing-size _ (c .before .loop .inv .1)
 
 returns : tie.Need-returns Inv-loop μ-loop
+unfolding toEdges
 returns c =
-    let a = c .before .before .before .before .args in
-    shares-end (t (now (a .sheet)) (a .from) (a .u)) (a .u) (c .before .loop .left) (c .before .loop .inv .3) (omega arith)
+    let q = c .before .before .before .before in
+    let l = c .before .loop in
+    writing-as (ap (toEdges (q .args .u) (manyOf (now (q .args .edges)) (q .args .u) - l .j + q .args .more)) (rest-end (now (q .args .edges)) (q .args .u) (l .j) (omega (arith, c .loop-test .left, c .before .before .many .ensures)))) (l .inv .1)
 
 pub to-edges-spec : {M : Type 1} → statement M
 to-edges-spec =
@@ -120,14 +93,13 @@ to-edges-spec =
     (tie.spec
     Inv-loop
     μ-loop
+    many-requires
     loop-holds
-    mul-wide
-    add-wide
-    shared-slice-read-wide
-    wide-requires
+    thing-requires
+    sub-put
+    add-put
     put-requires
-    sub-left
-    add-e
+    add-j
     loop-less
     loop-again
     same-length

@@ -1,94 +1,103 @@
--- `from_label` meets its contract: a list for each node, rising.
+-- `from_label` meets its contract: a record for each place of the row.
 use mathlib.Core.Path.{_≡_, sym, ap, _∙_}
-use mathlib.Core.List.{List}
-use Prim.Native.Nat.{ℕ, _+_, _-_, _≤_}
+use mathlib.Core.List.{List, _∷_, map}
+use Prim.Native.Nat.{ℕ, _+_, _-_, _/_, _%_, _≤_, _<_}
 use native.Mathlib.Omega.{arith}
 use borrow.Author.Needs.{needs}
 use denote.Ref.{now}
-use lib.ListN.{length, getD}
-use Rattle.instance.specs.Bytes.{byte}
-use Rattle.instance.specs.Sheet.{instanceOf}
-use Rattle.schedule.specs.Sweep.{Entry, entry, each, fromLabel, labelled, labelAt}
-use Rattle.schedule.specs.Writing.{Writing, having}
-use Rattle.schedule.proofs.WritingLaws.{length-map, room-as, onward, writing-for, writing-size, rising-start, rising-room, rising-more, rising-end}
-use Rattle.schedule.proofs.Sight.{node-byte, nodes-few, degree-few, label-rows, label-bytes, labelled-is}
+use lib.ListN.{getD}
+use Rattle.index.specs.Index.{many as manyOf}
+use Rattle.schedule.specs.Sweep.{entry}
+use Rattle.schedule.specs.Writing.{Writing, spotted, labelBy}
+use Rattle.schedule.proofs.WritingLaws.{length-label, room-as, writing-start, writing-as, writing-size, turn-room, turn-more, rest, rest-start, rest-more, rest-end}
 use Rattle.schedule.proofs.labels.from_label.Statement.{statement}
 use Rattle.schedule.proofs.labels.from_label.Tie as tie
 
--- a node's list
-abbrev f : List ℕ → ℕ → ℕ → List Entry
-f sheet label u = fromLabel u (labelled (instanceOf sheet) label u)
-
 abbrev Inv-loop : tie.InvT-loop
-Inv-loop sheet n ends edges starts label out₀ at next₀ u₀ out next u = (u ≤ n) × Writing out₀ at (labelAt (instanceOf sheet) label) out next (each (f sheet label) (onward n u))
+Inv-loop places spots label out₀ at many next₀ j₀ out next j =
+    (j ≤ manyOf places label) × Writing out₀ at (labelBy places spots label) out next (map (spotted spots) (rest places label j))
 
 abbrev μ-loop : tie.MeasureT-loop
-μ-loop sheet n ends edges starts label out₀ at next₀ u₀ out next u = n - u
+μ-loop places spots label out₀ at many next₀ j₀ out next j = many - j
 
-loop-holds : tie.Need-loop-holds Inv-loop μ-loop
-loop-holds c =
-    let q = c .before .before in
-    let a = q .args in
-    (omega arith, writing-for (label-rows (q .pre .0) (a .label)) (rising-start (f (now (a .sheet)) (a .label)) (a .n) (now (a .out)) (a .at)))
-
-mul-from : tie.Need-mul-from Inv-loop μ-loop
-mul-from c = let q = c .before .before .before .before in omega (arith, nodes-few (q .pre .0), c .loop-test .taken)
-
-element-copy-out-from : tie.Need-element-copy-out-from Inv-loop μ-loop
-element-copy-out-from c = omega (arith, nodes-few (c .before .before .before .before .pre .0), c .loop-test .taken)
-
--- a node of the sheet: where its labels stand, and which they are
+-- a place of the row
 module _ (i : tie.In-loop Inv-loop μ-loop) where
   abbrev q : tie.Start Inv-loop μ-loop
   q = i .before .before .before .before
 
-  abbrev u : ℕ
-  u = i .before .loop .u
+  abbrev places : List ℕ
+  places = now (q .args .places)
 
-  inside : q .args .n + getD (now (q .args .starts)) u 0 + byte (now (q .args .sheet)) u ≤ length (now (q .args .sheet))
-  inside = label-bytes (q .pre .0) (q .pre .1 .0) (i .loop-test .taken)
+  abbrev label : ℕ
+  label = q .args .label
 
-  row : fromLabel u (having (now (q .args .sheet)) (q .args .n + getD (now (q .args .starts)) u 0) (byte (now (q .args .sheet)) u) (q .args .label)) ≡ f (now (q .args .sheet)) (q .args .label) u
-  row = ap (fromLabel u) (labelled-is (q .pre .0) (q .pre .1 .0) (i .loop-test .taken) (q .args .label))
+  abbrev j : ℕ
+  j = i .before .loop .j
 
-  few : length (f (now (q .args .sheet)) (q .args .label) u) ≡ length (having (now (q .args .sheet)) (q .args .n + getD (now (q .args .starts)) u 0) (byte (now (q .args .sheet)) u) (q .args .label))
-  unfolding fromLabel
-  few = ap length (sym row) ∙ length-map (λ k. entry 4 u k 1) (having (now (q .args .sheet)) (q .args .n + getD (now (q .args .starts)) u 0) (byte (now (q .args .sheet)) u) (q .args .label))
+  more : j < manyOf places label
+  more = omega (arith, i .loop-test .taken, i .before .before .many .ensures)
 
-add-from : tie.Need-add-from Inv-loop μ-loop
-add-from c = omega (arith, inside (c .before), q (c .before) .fits)
+inside : (p : tie.After-thing Inv-loop μ-loop) → p .thing .result < 1024
+inside p = let i = p .before in omega (arith, p .thing .ensures .0, q i .pre .0 .inside (label i) (j i) (q i .pre .1 .0) (more i))
 
-shared-slice-read-wide : tie.Need-shared-slice-read-wide Inv-loop μ-loop
-shared-slice-read-wide c = let i = c .before .before in node-byte (q i .pre .0) (i .loop-test .taken)
+next : (n : tie.After-number Inv-loop μ-loop) → let i = n .before .before .before in
+    let spots = now (q i .args .spots) in
+    map (spotted spots) (rest (places i) (label i) (j i)) ≡ entry 4 (n .number .result % 256) (n .number .result / 256) 1 ∷ map (spotted spots) (rest (places i) (label i) (j i + 1))
+next n =
+    let i = n .before .before .before in
+    let spots = now (q i .args .spots) in
+    let e = n .number .ensures .0 ∙ ap (λ (p : ℕ). getD spots p 0) (n .before .before .thing .ensures .0) in
+    ap (map (spotted spots)) (rest-more (places i) (label i) (j i) (more i)) ∙ ap (λ (x : ℕ). entry 4 (x % 256) (x / 256) 1 ∷ map (spotted spots) (rest (places i) (label i) (j i + 1))) (sym e)
 
-wide-requires : tie.Need-wide-requires Inv-loop μ-loop
-wide-requires c κs = search needs
+many-requires : tie.Need-many-requires Inv-loop μ-loop
+many-requires c κs = c .before .pre .1 .0
 
-from-label-at-requires : tie.Need-from-label-at-requires Inv-loop μ-loop
-from-label-at-requires c κs =
-    let i = c .before .before .before .before in
-    let k = q i .pre .0 in
-    let d = c .before .wide .ensures .0 in (
-      (omega (arith, d, inside i), omega (arith, d, degree-few k (i .loop-test .taken)), omega (arith, nodes-few k, i .loop-test .taken)),
-      rw d (room-as (few i) (rising-room (f (now (q i .args .sheet)) (q i .args .label)) (i .before .loop .inv .1) (i .loop-test .taken) (q i .pre .1 .1))),
-    )
+loop-holds : tie.Need-loop-holds Inv-loop μ-loop
+loop-holds c =
+    let a = c .before .before .args in
+    (omega arith, writing-as (ap (map (spotted (now (a .spots)))) (rest-start (now (a .places)) (a .label))) (writing-start (now (a .out)) (a .at) (labelBy (now (a .places)) (now (a .spots)) (a .label))))
 
-add-u : tie.Need-add-u Inv-loop μ-loop
-add-u c = omega arith
+thing-requires : tie.Need-thing-requires Inv-loop μ-loop
+thing-requires c κs = let q = c .before .before .before .before in (q .pre .1 .0, omega (arith, more c, q .pre .0 .few (q .args .label) (q .pre .1 .0)))
+
+mul-number : tie.Need-mul-number Inv-loop μ-loop
+mul-number c = omega (arith, inside c)
+
+element-copy-out-number : tie.Need-element-copy-out-number Inv-loop μ-loop
+element-copy-out-number c = inside c
+
+number-requires : tie.Need-number-requires Inv-loop μ-loop
+number-requires c κs = search needs
+
+put-requires : tie.Need-put-requires Inv-loop μ-loop
+put-requires c κs =
+    let n = c .before in
+    let p = n .before .before in
+    let i = p .before in
+    let q = i .before .before .before .before in
+    let x = n .number .ensures .1 in
+    (turn-room (i .before .loop .inv .1) (next n) (room-as (sym (length-label (now (q .args .places)) (now (q .args .spots)) (q .args .label))) (q .pre .1 .1)), (omega arith, omega arith, omega arith))
+
+add-j : tie.Need-add-j Inv-loop μ-loop
+add-j c = let i = c .before .before .before .before .before .before .before in omega (arith, i .loop-test .taken, i .before .before .before .before .fits, i .before .before .many .ensures, i .before .before .before .before .pre .0 .few (i .before .before .before .before .args .label) (i .before .before .before .before .pre .1 .0))
 
 loop-less : tie.Need-loop-less Inv-loop μ-loop
-loop-less c = omega arith
+loop-less c = let i = c .before .before .before .before .before .before .before in omega (arith, i .loop-test .taken)
 
 loop-again : tie.Need-loop-again Inv-loop μ-loop
 loop-again c =
-    let i = c .before .before .before .before .before .before .before in
-    (omega (arith, i .loop-test .taken), rising-more (f (now (q i .args .sheet)) (q i .args .label)) (i .before .loop .inv .1) (i .loop-test .taken) (rw (c .before .before .before .before .wide .ensures .0, row i) at (c .before .before .from-label-at .ensures)))
+    let n = c .before .before .before .before in
+    let i = n .before .before .before in
+    (omega (arith, more i), turn-more (i .before .loop .inv .1) (next n) (c .before .before .put .ensures))
 
 same-length : tie.Need-same-length Inv-loop μ-loop
 same-length c = writing-size _ (c .before .loop .inv .1)
 
 returns : tie.Need-returns Inv-loop μ-loop
-returns c = let a = c .before .before .before .before .args in rising-end (f (now (a .sheet)) (a .label)) (c .before .loop .inv .1) (c .loop-test .left)
+returns c =
+    let q = c .before .before .before .before in
+    let l = c .before .loop in
+    writing-as (ap (map (spotted (now (q .args .spots)))) (rest-end (now (q .args .places)) (q .args .label) (l .j) (omega (arith, c .loop-test .left, c .before .before .many .ensures)))) (l .inv .1)
 
 pub from-label-spec : {M : Type 1} → statement M
 from-label-spec =
@@ -96,14 +105,14 @@ from-label-spec =
     (tie.spec
     Inv-loop
     μ-loop
+    many-requires
     loop-holds
-    mul-from
-    element-copy-out-from
-    add-from
-    shared-slice-read-wide
-    wide-requires
-    from-label-at-requires
-    add-u
+    thing-requires
+    mul-number
+    element-copy-out-number
+    number-requires
+    put-requires
+    add-j
     loop-less
     loop-again
     same-length

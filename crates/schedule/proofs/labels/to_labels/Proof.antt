@@ -1,13 +1,13 @@
 -- `to_labels` meets its contract: a record for each position.
 use mathlib.Core.Path.{sym, ap, _∙_}
-use mathlib.Core.List.{[], _∷_, map}
-use Prim.Native.Nat.{ℕ, _+_, _-_, _≤_}
+use mathlib.Core.List.{map}
+use Prim.Native.Nat.{ℕ, _-_, _≤_}
 use native.Mathlib.Omega.{arith}
 use denote.Ref.{now}
-use lib.ListN.{length}
+use Rattle.index.proofs.Lists.{length-map, length-range}
 use Rattle.schedule.specs.Sweep.{Entry, entry, toLabels}
 use Rattle.schedule.specs.Writing.{Writing}
-use Rattle.schedule.proofs.WritingLaws.{length-map, length-range, room-as, onward, onward-start, onward-more, onward-end, writing-start, writing-as, writing-more, writing-size, writing-room}
+use Rattle.schedule.proofs.WritingLaws.{room-as, onward, onward-start, onward-more, onward-end, writing-start, writing-as, writing-size, turn-room, turn-more}
 use Rattle.schedule.proofs.labels.to_labels.Statement.{statement}
 use Rattle.schedule.proofs.labels.to_labels.Tie as tie
 
@@ -27,9 +27,8 @@ put-requires : tie.Need-put-requires Inv-loop μ-loop
 put-requires c κs =
     let p = c .before .before in
     let q = p .before .before in
-    let u = q .args .u in
-    let k = p .loop .k in (
-      writing-room (f u k ∷ []) (map (f u) (onward (q .args .degree) (k + 1))) (writing-as (ap (map (f u)) (onward-more (c .before .loop-test .taken))) (p .loop .inv .1)) (room-as (sym (length-map (f u) (onward (q .args .degree) 0) ∙ ap length (sym (onward-start (q .args .degree))) ∙ length-range 0 (q .args .degree))) (q .pre .1)),
+    let all = onward (q .args .degree) 0 in (
+      turn-room (p .loop .inv .1) (ap (map (f (q .args .u))) (onward-more (c .before .loop-test .taken))) (room-as (sym (length-map (f (q .args .u)) all ∙ length-range 0 (q .args .degree - 0) ∙ omega arith)) (q .pre .1)),
       (omega arith, omega arith, omega arith),
     )
 
@@ -43,11 +42,7 @@ loop-again : tie.Need-loop-again Inv-loop μ-loop
 loop-again c =
     let n = c .before .before .before .before in
     let p = n .before in
-    let a = p .before .before .args in
-    let k = p .loop .k in (
-      omega arith,
-      writing-more (f (a .u) k ∷ []) (map (f (a .u)) (onward (a .degree) (k + 1))) (writing-as (ap (map (f (a .u))) (onward-more (n .loop-test .taken))) (p .loop .inv .1)) (c .before .before .put .ensures),
-    )
+    (omega arith, turn-more (p .loop .inv .1) (ap (map (f (p .before .before .args .u))) (onward-more (n .loop-test .taken))) (c .before .before .put .ensures))
 
 same-length : tie.Need-same-length Inv-loop μ-loop
 same-length c = writing-size _ (c .before .loop .inv .1)

@@ -1,20 +1,27 @@
 -- `backward` meets its contract: the labels' lists, the nodes' lists, and then the rounding.
+use mathlib.Core.Path.{_≡_, sym, ap, subst}
 use mathlib.Core.List.{List, _++_}
+use Prim.Native.Nat.{ℕ}
 use native.Mathlib.Omega.{arith}
-use borrow.Author.Needs.{needs}
 use denote.Ref.{now}
 use lib.ListN.{length}
 use Rattle.instance.specs.Instance.{Instance}
 use Rattle.instance.specs.Sheet.{instanceOf}
+use Rattle.index.specs.Index.{Indexed}
 use Rattle.schedule.specs.Sweep.{Entry, each, falling, rounding, labelAt, backwardAt, backward}
-use Rattle.schedule.specs.Writing.{Room}
-use Rattle.schedule.proofs.WritingLaws.{room-whole, room-left, room-right, wrote-append, wrote-all}
+use Rattle.schedule.specs.Writing.{Room, backwardBy}
+use Rattle.schedule.proofs.WritingLaws.{room-as, room-whole, room-left, room-right, writing-for, wrote-append, wrote-all}
+use Rattle.schedule.proofs.Sight.{nodes-few, higher-indexed, lower-rows, higher-rows, backward-nodes}
+use borrow.Author.Needs.{needs}
 use Rattle.schedule.proofs.sweep.backward.Statement.{statement}
 use Rattle.schedule.proofs.sweep.backward.Tie as tie
 
 module _ (q : tie.Start) where
   abbrev I : Instance
   I = instanceOf (now (q .args .sheet))
+
+  lower : Indexed (I .high) (I .edgeCount) (now (q .args .lower))
+  lower = q .pre .1 .0
 
   -- the labels' lists, and the nodes' lists
   abbrev labels : List Entry
@@ -25,26 +32,40 @@ module _ (q : tie.Start) where
 
   room : Room (now (q .args .out)) 0 (length (labels ++ (nodes ++ rounding)))
   unfolding backward
-  room = room-whole (labels ++ (nodes ++ rounding)) (q .pre .1 .1 .1)
+  room = room-whole (labels ++ (nodes ++ rounding)) (q .pre .1 .1)
 
-from-labels-requires : tie.Need-from-labels-requires
-from-labels-requires c κs =
-    let q = c .before .before .before in
-    (q .pre .0, (q .pre .1 .0, rw (q .pre .1 .1 .0) (room-left (labels q) (nodes q ++ rounding) (room q))))
+-- the edges by their lower ends
+module _ (x : tie.After-edges-by) where
+  abbrev start : tie.Start
+  start = x .before .before .before
+
+  higher : Indexed (I start .low) (I start .edgeCount) (x .edges-by .result)
+  higher = subst (λ (l : List ℕ). Indexed (I start .low) (I start .edgeCount) l) (sym (x .edges-by .ensures)) (higher-indexed (start .pre .0))
+
+  lists : each (backwardBy (now (start .args .lower)) (x .edges-by .result)) (falling (start .args .counts .nodes)) ≡ nodes start
+  lists = backward-nodes (start .pre .0) (lower start) higher
+
+edges-by-requires : tie.Need-edges-by-requires
+edges-by-requires c κs = search needs
+
+backward-labels-requires : tie.Need-backward-labels-requires
+backward-labels-requires c κs = let q = start (c .before) in (q .pre .0, room-left (labels q) (nodes q ++ rounding) (room q))
 
 backward-nodes-requires : tie.Need-backward-nodes-requires
 backward-nodes-requires c κs =
-    let q = c .before .before .before .before .before .before .before in
-    let w = rw (q .pre .1 .1 .0) at (c .before .before .before .from-labels .ensures) in
-    (q .pre .0, rw (q .pre .0 .nodes) (room-left (nodes q) rounding (room-right (labels q) (nodes q ++ rounding) w (room q))))
+    let x = c .before .before .before .before .before .before in
+    let q = start x in
+    let w = q .pre .0 in
+    let r = room-right (labels q) (nodes q ++ rounding) (c .before .before .before .before .backward-labels .ensures) (room q) in
+    (lower-rows w (lower q) (higher x), (higher-rows w (lower q) (higher x), (nodes-few w, room-as (ap length (sym (lists x))) (room-left (nodes q) rounding r))))
 
 put-requires : tie.Need-put-requires
 unfolding rounding
 put-requires c κs =
-    let q = c .before .before .before .before .before .before .before .before .before .before .before in
-    let w = rw (q .pre .1 .1 .0) at (c .before .before .before .before .before .before .before .from-labels .ensures) in
-    let v = rw (q .pre .0 .nodes) at (c .before .before .before .backward-nodes .ensures) in
-    (room-right (nodes q) rounding v (room-right (labels q) (nodes q ++ rounding) w (room q)), (omega arith, omega arith, omega arith))
+    let x = c .before .before .before .before .before .before .before .before .before .before in
+    let q = start x in
+    let r = room-right (labels q) (nodes q ++ rounding) (c .before .before .before .before .before .before .before .before .backward-labels .ensures) (room q) in
+    (room-right (nodes q) rounding (writing-for (lists x) (c .before .before .before .backward-nodes .ensures)) r, (omega arith, omega arith, omega arith))
 
 same-length : tie.Need-same-length
 same-length c = search needs
@@ -52,12 +73,18 @@ same-length c = search needs
 returns : tie.Need-returns
 unfolding backward rounding
 returns c =
-    let q = c .before .before .before .before .before .before .before .before .before .before .before .before .before .before in
-    let w = rw (q .pre .1 .1 .0) at (c .before .before .before .before .before .before .before .before .before .before .from-labels .ensures) in
-    let v = rw (q .pre .0 .nodes) at (c .before .before .before .before .before .before .backward-nodes .ensures) in
-    wrote-all (labels q ++ (nodes q ++ rounding)) (wrote-append (labels q) (nodes q ++ rounding) w (wrote-append (nodes q) rounding v (c .before .before .put .ensures))) (q .pre .1 .1 .1)
+    let x = c .before .before .before .before .before .before .before .before .before .before .before .before .before in
+    let q = start x in
+    let v = wrote-append (nodes q) rounding (writing-for (lists x) (c .before .before .before .before .before .before .backward-nodes .ensures)) (c .before .before .put .ensures) in
+    wrote-all (labels q ++ (nodes q ++ rounding)) (wrote-append (labels q) (nodes q ++ rounding) (c .before .before .before .before .before .before .before .before .before .before .before .backward-labels .ensures) v) (q .pre .1 .1)
 
 pub backward-spec : {M : Type 1} → statement M
 backward-spec =
     tie.close
-    (tie.spec from-labels-requires backward-nodes-requires put-requires same-length returns)
+    (tie.spec
+    edges-by-requires
+    backward-labels-requires
+    backward-nodes-requires
+    put-requires
+    same-length
+    returns)

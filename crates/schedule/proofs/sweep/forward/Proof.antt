@@ -1,15 +1,19 @@
 -- `forward` meets its contract: the nodes' lists, and then the rounding.
+use mathlib.Core.Path.{_≡_, sym, ap, subst}
 use mathlib.Core.List.{List, _++_}
+use Prim.Native.Nat.{ℕ}
 use native.Mathlib.Omega.{arith}
-use borrow.Author.Needs.{needs}
 use denote.Ref.{now}
 use lib.ListN.{length}
 use Rattle.integers.specs.Places.{range}
 use Rattle.instance.specs.Instance.{Instance}
 use Rattle.instance.specs.Sheet.{instanceOf}
+use Rattle.index.specs.Index.{Indexed}
 use Rattle.schedule.specs.Sweep.{Entry, each, rounding, forwardAt, forward}
-use Rattle.schedule.specs.Writing.{Room}
-use Rattle.schedule.proofs.WritingLaws.{room-whole, room-left, room-right, wrote-append, wrote-all}
+use Rattle.schedule.specs.Writing.{Room, forwardBy}
+use Rattle.schedule.proofs.WritingLaws.{room-as, room-whole, room-left, room-right, writing-for, wrote-append, wrote-all}
+use Rattle.schedule.proofs.Sight.{nodes-few, node-bytes, higher-indexed, lower-rows, higher-rows, forward-nodes}
+use borrow.Author.Needs.{needs}
 use Rattle.schedule.proofs.sweep.forward.Statement.{statement}
 use Rattle.schedule.proofs.sweep.forward.Tie as tie
 
@@ -17,25 +21,44 @@ module _ (q : tie.Start) where
   abbrev I : Instance
   I = instanceOf (now (q .args .sheet))
 
+  lower : Indexed (I .high) (I .edgeCount) (now (q .args .lower))
+  lower = q .pre .1 .0
+
   -- the nodes' lists
   abbrev nodes : List Entry
   nodes = each (forwardAt I) (range 0 (I .nodeCount))
 
   room : Room (now (q .args .out)) 0 (length (nodes ++ rounding))
   unfolding forward
-  room = room-whole (nodes ++ rounding) (q .pre .1)
+  room = room-whole (nodes ++ rounding) (q .pre .1 .1)
+
+-- the edges by their lower ends
+module _ (x : tie.After-edges-by) where
+  abbrev start : tie.Start
+  start = x .before .before .before
+
+  higher : Indexed (I start .low) (I start .edgeCount) (x .edges-by .result)
+  higher = subst (λ (l : List ℕ). Indexed (I start .low) (I start .edgeCount) l) (sym (x .edges-by .ensures)) (higher-indexed (start .pre .0))
+
+  lists : each (forwardBy (now (start .args .sheet)) (now (start .args .lower)) (x .edges-by .result)) (range 0 (start .args .counts .nodes)) ≡ nodes start
+  lists = forward-nodes (start .pre .0) (lower start) higher
+
+edges-by-requires : tie.Need-edges-by-requires
+edges-by-requires c κs = search needs
 
 forward-nodes-requires : tie.Need-forward-nodes-requires
 forward-nodes-requires c κs =
-    let q = c .before .before .before in
-    (q .pre .0, rw (q .pre .0 .nodes) (room-left (nodes q) rounding (room q)))
+    let x = c .before .before in
+    let q = start x in
+    let w = q .pre .0 in
+    (lower-rows w (lower q) (higher x), (higher-rows w (lower q) (higher x), ((nodes-few w, node-bytes w), room-as (ap length (sym (lists x))) (room-left (nodes q) rounding (room q)))))
 
 put-requires : tie.Need-put-requires
 unfolding rounding
 put-requires c κs =
-    let q = c .before .before .before .before .before .before .before in
-    let w = rw (q .pre .0 .nodes) at (c .before .before .before .forward-nodes .ensures) in
-    (room-right (nodes q) rounding w (room q), (omega arith, omega arith, omega arith))
+    let x = c .before .before .before .before .before .before in
+    let q = start x in
+    (room-right (nodes q) rounding (writing-for (lists x) (c .before .before .before .forward-nodes .ensures)) (room q), (omega arith, omega arith, omega arith))
 
 same-length : tie.Need-same-length
 same-length c = search needs
@@ -43,9 +66,10 @@ same-length c = search needs
 returns : tie.Need-returns
 unfolding forward rounding
 returns c =
-    let q = c .before .before .before .before .before .before .before .before .before .before in
-    let w = rw (q .pre .0 .nodes) at (c .before .before .before .before .before .before .forward-nodes .ensures) in
-    wrote-all (nodes q ++ rounding) (wrote-append (nodes q) rounding w (c .before .before .put .ensures)) (q .pre .1)
+    let x = c .before .before .before .before .before .before .before .before .before in
+    let q = start x in
+    wrote-all (nodes q ++ rounding) (wrote-append (nodes q) rounding (writing-for (lists x) (c .before .before .before .before .before .before .forward-nodes .ensures)) (c .before .before .put .ensures)) (q .pre .1 .1)
 
 pub forward-spec : {M : Type 1} → statement M
-forward-spec = tie.close (tie.spec forward-nodes-requires put-requires same-length returns)
+forward-spec =
+    tie.close (tie.spec edges-by-requires forward-nodes-requires put-requires same-length returns)

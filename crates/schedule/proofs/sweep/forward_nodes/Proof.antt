@@ -1,30 +1,35 @@
 -- `forward_nodes` meets its contract: a list for each node, rising.
-use Prim.Native.Nat.{_-_, _≤_}
+use mathlib.Core.List.{List}
+use Prim.Native.Nat.{ℕ, _-_, _≤_}
 use native.Mathlib.Omega.{arith}
 use denote.Ref.{now}
 use Rattle.integers.specs.Places.{range}
-use Rattle.instance.specs.Sheet.{instanceOf}
-use Rattle.schedule.specs.Sweep.{each, forwardAt}
-use Rattle.schedule.specs.Writing.{Writing}
+use Rattle.schedule.specs.Sweep.{Entry, each}
+use Rattle.schedule.specs.Writing.{Writing, forwardBy}
 use Rattle.schedule.proofs.WritingLaws.{onward, writing-size, rising-start, rising-room, rising-more, rising-end}
 use Rattle.schedule.proofs.sweep.forward_nodes.Statement.{statement}
 use Rattle.schedule.proofs.sweep.forward_nodes.Tie as tie
 
 abbrev Inv-loop : tie.InvT-loop
-Inv-loop sheet n ends edges out₀ at next₀ u₀ out next u =
-    (u ≤ n) × Writing out₀ at (each (forwardAt (instanceOf sheet)) (range 0 n)) out next (each (forwardAt (instanceOf sheet)) (onward n u))
+Inv-loop sheet n lower higher out₀ at next₀ u₀ out next u =
+    (u ≤ n) × Writing out₀ at (each (forwardBy sheet lower higher) (range 0 n)) out next (each (forwardBy sheet lower higher) (onward n u))
 
 abbrev μ-loop : tie.MeasureT-loop
-μ-loop sheet n ends edges out₀ at next₀ u₀ out next u = n - u
+μ-loop sheet n lower higher out₀ at next₀ u₀ out next u = n - u
+
+-- a node's list
+abbrev f : tie.Start Inv-loop μ-loop → ℕ → List Entry
+f q = forwardBy (now (q .args .sheet)) (now (q .args .lower)) (now (q .args .higher))
 
 loop-holds : tie.Need-loop-holds Inv-loop μ-loop
-loop-holds c = let a = c .before .before .args in (omega arith, rising-start (forwardAt (instanceOf (now (a .sheet)))) (a .n) (now (a .out)) (a .at))
+loop-holds c = let q = c .before .before in (omega arith, rising-start (f q) (q .args .n) (now (q .args .out)) (q .args .at))
 
 forward-at-requires : tie.Need-forward-at-requires Inv-loop μ-loop
 forward-at-requires c κs =
-    let p = c .before .before in
-    let q = p .before .before .before in
-    (q .pre .0, (c .before .loop-test .taken, rising-room (forwardAt (instanceOf (now (q .args .sheet)))) (p .loop .inv .1) (c .before .loop-test .taken) (q .pre .1)))
+    let i = c .before in
+    let q = i .before .before .before .before in
+    let h = i .loop-test .taken in
+    (q .pre .0, (q .pre .1 .0, ((omega (arith, h, q .pre .1 .1 .0), omega (arith, h, q .pre .1 .1 .0)), rising-room (f q) (i .before .loop .inv .1) h (q .pre .1 .1 .1))))
 
 add-u : tie.Need-add-u Inv-loop μ-loop
 add-u c = omega arith
@@ -33,17 +38,13 @@ loop-less : tie.Need-loop-less Inv-loop μ-loop
 loop-less c = omega arith
 
 loop-again : tie.Need-loop-again Inv-loop μ-loop
-loop-again c =
-    let i = c .before .before .before .before in
-    let p = i .before in
-    let a = p .before .before .before .args in
-    (omega arith, rising-more (forwardAt (instanceOf (now (a .sheet)))) (p .loop .inv .1) (i .loop-test .taken) (c .before .before .forward-at .ensures))
+loop-again c = let i = c .before .before .before .before in (omega arith, rising-more (f (i .before .before .before .before)) (i .before .loop .inv .1) (i .loop-test .taken) (c .before .before .forward-at .ensures))
 
 same-length : tie.Need-same-length Inv-loop μ-loop
 same-length c = writing-size _ (c .before .loop .inv .1)
 
 returns : tie.Need-returns Inv-loop μ-loop
-returns c = rising-end (forwardAt (instanceOf (now (c .before .before .before .before .args .sheet)))) (c .before .loop .inv .1) (c .loop-test .left)
+returns c = rising-end (f (c .before .before .before .before)) (c .before .loop .inv .1) (c .loop-test .left)
 
 pub forward-nodes-spec : {M : Type 1} → statement M
 forward-nodes-spec =

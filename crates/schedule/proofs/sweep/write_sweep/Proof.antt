@@ -1,5 +1,5 @@
 -- `write_sweep` meets its contract: refused, nothing is altered; else the buffer holds the sweep.
-use mathlib.Core.Path.{_≡_, sym, ap, _∙_}
+use mathlib.Core.Path.{_≡_, sym, ap, _∙_, subst}
 use mathlib.Core.List.{List}
 use Prim.Native.Nat.{ℕ, _+_, _*_}
 use native.Mathlib.Omega.{arith}
@@ -10,11 +10,13 @@ use Rattle.instance.specs.declared.reading.Layout.{Layout}
 use Rattle.instance.specs.Instance.{first}
 use Rattle.instance.specs.Sheet.{instanceOf, refusalOf}
 use Rattle.instance.proofs.LaidOut.{LaidOut, refusal-is, laid-out}
+use Rattle.index.specs.Index.{Indexed}
 use Rattle.schedule.specs.Sweep.{bytes, sweep, sweepRecords, sweepLength}
-use Rattle.schedule.specs.Written.{written}
-use Rattle.schedule.specs.Writing.{Known, Begun}
+use Rattle.schedule.specs.Written.{written, sweepOf}
+use Rattle.schedule.specs.Writing.{Swept}
 use Rattle.schedule.proofs.Lengths.{sweep-length}
 use Rattle.schedule.proofs.Written.{known-yes, known-no, forward-is, backward-is, unread, unknown, unfit, swept}
+use Rattle.schedule.proofs.Sight.{lower-indexed}
 use Rattle.schedule.proofs.sweep.write_sweep.Statement.{statement}
 use Rattle.schedule.proofs.sweep.write_sweep.Tie as tie
 
@@ -47,12 +49,8 @@ module _ (p : tie.Else1) where
   size-is = omega (arith, laid)
 
   -- what the functions below are handed
-  handed : Known s (layout .nodes) (layout .nodes + 5 * layout .positions) (layout .edges)
-  unfolding first instanceOf
-  handed = record { readable = unrefused; nodes = laid .nodes; place = omega (arith, laid); all = laid .edges }
-
-  begun : Begun s (layout .starts)
-  begun = record { at = laid .starts }
+  handed : Swept s (record { nodes = layout .nodes; labels = layout .labels; edges = layout .edges; positions = layout .positions })
+  handed = record { readable = unrefused; nodes = laid .nodes; labels = laid .labels; edges = laid .edges; positions = laid .positions }
 
   long : (d : ℕ) → length (bytes (sweep (instanceOf s) d)) ≡ sweepLength (instanceOf s)
   long d = sweep-length (instanceOf s) (laid .sound .proper) d
@@ -71,61 +69,63 @@ returns-2 : tie.Need-returns-2
 returns-2 c = let p = c .before in unknown (s p) (direction p) (out p) (unrefused p) (known-no (direction p) (omega (arith, c .if2 .taken)))
 
 mul-if3 : tie.Need-mul-if3
-mul-if3 c = omega (arith, laid (c .before))
+mul-if3 c = omega (arith, laid (c .before .before))
 
 add-if3 : tie.Need-add-if3
-add-if3 c = omega (arith, laid (c .before .before))
+add-if3 c = omega (arith, laid (c .before .before .before))
 
 add-if3-2 : tie.Need-add-if3-2
-add-if3-2 c = omega (arith, laid (c .before .before))
+add-if3-2 c = omega (arith, laid (c .before .before .before))
 
 mul-if3-2 : tie.Need-mul-if3-2
-mul-if3-2 c = omega (arith, laid (c .before .before))
+mul-if3-2 c = omega (arith, laid (c .before .before .before))
 
 returns-3 : tie.Need-returns-3
 returns-3 c =
-    let p = c .before .before .before in
-    unfit (s p) (direction p) (out p) (unrefused p) (known-yes (direction p) (omega (arith, c .before .before .if2 .left))) (λ z. c .if3 .taken (z ∙ sym (size-is p)))
+    let p = c .before .before .before .before in
+    unfit (s p) (direction p) (out p) (unrefused p) (known-yes (direction p) (omega (arith, c .before .before .before .if2 .left))) (λ z. c .if3 .taken (z ∙ sym (size-is p)))
 
-mul-ends : tie.Need-mul-ends
-mul-ends c = search needs
+edges-by-requires : tie.Need-edges-by-requires
+edges-by-requires c κs = (handed (c .before .before .before .before), omega arith)
 
-add-ends : tie.Need-add-ends
-add-ends c = omega (arith, laid (c .before .before .before .before))
+-- the edges by their higher ends, and the buffer
+module _ (x : tie.After-edges-by) where
+  abbrev p : tie.Else1
+  p = x .before .before .before .before .before
+
+  lower : Indexed (instanceOf (s p) .high) (instanceOf (s p) .edgeCount) (x .edges-by .result)
+  lower = subst (λ (l : List ℕ). Indexed (instanceOf (s p) .high) (instanceOf (s p) .edgeCount) l) (sym (x .edges-by .ensures)) (lower-indexed (handed p))
+
+  fit : length (out p) ≡ sweepLength (instanceOf (s p))
+  fit = x .before .if3 .left ∙ size-is p
+
+  -- the sweep in it
+  filled : {l : List ℕ} → l ≡ bytes (sweep (instanceOf (s p)) (direction p)) → written l 0 ≡ sweepOf (s p) (direction p) (out p)
+  filled e =
+      ap (λ (l : List ℕ). written l 0) e
+      ∙ swept (s p) (direction p) (out p) (unrefused p) (known-yes (direction p) (omega (arith, x .before .before .before .before .if2 .left))) fit
 
 forward-requires : tie.Need-forward-requires
 forward-requires c κs =
-    let p = c .before .before .before .before .before .before in
-    (handed p, c .before .before .before .if3 .left ∙ size-is p ∙ sym (long p (direction p)) ∙ ap (λ l. length (bytes l)) (forward-is (instanceOf (s p)) (c .before .if4 .taken)))
+    let x = c .before .before .before in
+    (handed (p x), (lower x, fit x ∙ sym (long (p x) (direction (p x))) ∙ ap (λ l. length (bytes l)) (forward-is (instanceOf (s (p x))) (c .before .before .if4 .taken))))
 
 same-length : tie.Need-same-length
 same-length c = search needs
 
 returns-4 : tie.Need-returns-4
-returns-4 c =
-    let g = c .before .before .before .before in
-    let p = g .before .before .before .before .before in
-    let I = instanceOf (s p) in
-    ap (λ (l : List ℕ). written l 0) (c .before .before .forward .ensures ∙ ap bytes (sym (forward-is I (g .if4 .taken))))
-    ∙ swept (s p) (direction p) (out p) (unrefused p) (known-yes (direction p) (omega (arith, g .before .before .before .before .if2 .left))) (g .before .before .if3 .left ∙ size-is p)
+returns-4 c = let x = c .before .before .before .before .before .before in filled x (c .before .before .forward .ensures ∙ ap bytes (sym (forward-is (instanceOf (s (p x))) (c .before .before .before .before .before .if4 .taken))))
 
 backward-requires : tie.Need-backward-requires
 backward-requires c κs =
-    let g = c .before .before .before in
-    let p = g .before .before .before .before .before in
-    let e = ap (λ l. length (bytes l)) (backward-is (instanceOf (s p)) (g .if4 .left)) in
-    (handed p, (begun p, (laid p .labels, g .before .before .if3 .left ∙ size-is p ∙ sym (long p (direction p)) ∙ e)))
+    let x = c .before .before .before in
+    (handed (p x), (lower x, fit x ∙ sym (long (p x) (direction (p x))) ∙ ap (λ l. length (bytes l)) (backward-is (instanceOf (s (p x))) (c .before .before .if4 .left))))
 
 same-length-2 : tie.Need-same-length-2
 same-length-2 c = search needs
 
 returns-5 : tie.Need-returns-5
-returns-5 c =
-    let g = c .before .before .before .before .before .before in
-    let p = g .before .before .before .before .before in
-    let I = instanceOf (s p) in
-    ap (λ (l : List ℕ). written l 0) (c .before .before .backward .ensures ∙ ap bytes (sym (backward-is I (g .if4 .left))))
-    ∙ swept (s p) (direction p) (out p) (unrefused p) (known-yes (direction p) (omega (arith, g .before .before .before .before .if2 .left))) (g .before .before .if3 .left ∙ size-is p)
+returns-5 c = let x = c .before .before .before .before .before .before in filled x (c .before .before .backward .ensures ∙ ap bytes (sym (backward-is (instanceOf (s (p x))) (c .before .before .before .before .before .if4 .left))))
 
 pub write-sweep-spec : {M : Type 1} → statement M
 write-sweep-spec =
@@ -139,8 +139,7 @@ write-sweep-spec =
     add-if3-2
     mul-if3-2
     returns-3
-    mul-ends
-    add-ends
+    edges-by-requires
     forward-requires
     same-length
     returns-4

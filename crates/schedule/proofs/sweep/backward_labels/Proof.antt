@@ -1,0 +1,78 @@
+-- `backward_labels` meets its contract: the labels' lists by the places that have them.
+use mathlib.Core.Path.{_≡_, sym, ap, _∙_, subst}
+use mathlib.Core.List.{List}
+use Prim.Native.Nat.{ℕ, _+_, _-_}
+use native.Mathlib.Omega.{arith}
+use denote.Ref.{now}
+use lib.ListN.{length, take, drop}
+use Rattle.instance.specs.Instance.{Instance, nodeCells}
+use Rattle.instance.specs.Sheet.{instanceOf}
+use Rattle.index.specs.Index.{indexOf, Indexed}
+use Rattle.schedule.specs.Sweep.{each, falling, labelAt}
+use Rattle.schedule.specs.Writing.{labelBy}
+use Rattle.schedule.proofs.WritingLaws.{room-as, writing-for}
+use Rattle.schedule.proofs.Sight.{sizes, nodes-few, node-bytes, label-bytes, labels-64, places-few, places-indexed, place-rows, label-lists}
+use borrow.Author.Needs.{needs}
+use Rattle.schedule.proofs.sweep.backward_labels.Statement.{statement}
+use Rattle.schedule.proofs.sweep.backward_labels.Tie as tie
+
+-- the places by label
+module _ (x : tie.After-spots) where
+  abbrev start : tie.Start
+  start = x .before .before .before .before .before .before
+
+  abbrev I : Instance
+  I = instanceOf (now (start .args .sheet))
+
+  placed : Indexed (I .label) (nodeCells I) (x .before .index-by .result)
+  placed =
+      let a = start .args .counts in
+      let e : a .nodes + a .positions - a .nodes ≡ a .positions = omega arith in
+      subst (λ (l : List ℕ). Indexed (I .label) (nodeCells I) l) (sym (x .before .index-by .ensures ∙ ap (λ (m : ℕ). indexOf (take m (drop (a .nodes) (now (start .args .sheet)))) 1) e)) (places-indexed (start .pre .0))
+
+  lists : each (labelBy (x .before .index-by .result) (x .spots .result)) (falling (start .args .counts .labels)) ≡ each (labelAt I) (falling (I .labelCount))
+  lists = label-lists (start .pre .0) placed (x .spots .ensures)
+
+add-prices : tie.Need-add-prices
+add-prices c = omega (arith, sizes (c .before .before .before .pre .0))
+
+sub-index-by : tie.Need-sub-index-by
+sub-index-by c = search needs
+
+part-index-by-start : tie.Need-part-index-by-start
+part-index-by-start c = search needs
+
+part-index-by-end : tie.Need-part-index-by-end
+part-index-by-end c = omega (arith, label-bytes (c .before .before .before .pre .0))
+
+index-by-requires : tie.Need-index-by-requires
+index-by-requires c κs = search needs
+
+spots-requires : tie.Need-spots-requires
+spots-requires c κs = let w = c .before .before .before .before .before .pre .0 in (node-bytes w, nodes-few w, places-few w)
+
+from-labels-requires : tie.Need-from-labels-requires
+from-labels-requires c κs =
+    let x = c .before .before .before in
+    let w = start x .pre .0 in
+    (place-rows w (placed x) (x .spots .ensures), (labels-64 w, room-as (ap length (sym (lists x))) (start x .pre .1)))
+
+same-length : tie.Need-same-length
+same-length c = search needs
+
+returns : tie.Need-returns
+returns c = writing-for (lists (c .before .before .before .before .before .before)) (c .before .before .from-labels .ensures)
+
+pub backward-labels-spec : {M : Type 1} → statement M
+backward-labels-spec =
+    tie.close
+    (tie.spec
+    add-prices
+    sub-index-by
+    part-index-by-start
+    part-index-by-end
+    index-by-requires
+    spots-requires
+    from-labels-requires
+    same-length
+    returns)
