@@ -16,10 +16,10 @@ use Rattle.instance.specs.Layout.{refusedBy, described, answerOf, layoutOf}
 use Rattle.instance.proofs.LaidOut.{laid-out, refusal-is}
 use Rattle.rules.specs.Costs.{Buffers, opened}
 use Rattle.rules.specs.Run.{Ran}
-use Rattle.rules.specs.Calls.{Opened, Report, lengthsOk, openOf, runOf, reportOf, filmOut}
+use Rattle.rules.specs.Calls.{Opened, Report, lengthsOk, openOf, runOf, reportOf, costLimit}
 use Rattle.messages.proofs.OpenLaws.{open-unread, open-fills, lengths-by}
 use Rattle.console.specs.Lines.{refusedLine, textOf}
-use Rattle.console.specs.Program.{ranText, printed}
+use Rattle.console.specs.Program.{mostBytes, ranText, printed}
 
 -- ---- opening in buffers of the sheet's own lengths
 
@@ -40,16 +40,16 @@ module _ (s l : List ℕ) where
   unfolding printed
   printed-refused e h = ap refusedLine e ∙ sym (if-false _ _ (ne-eqb (refusalOf s) 0 (λ z. h (e ∙ z))))
 
-  pub printed-long : refusalOf s ≡ 0 → 40_960 < length l → refusedLine 11 ≡ printed s l
+  pub printed-long : refusalOf s ≡ 0 → mostBytes < length l → refusedLine 11 ≡ printed s l
   unfolding printed
-  printed-long e h = sym (if-true _ _ (eq-eqb (refusalOf s) 0 e) ∙ if-false _ _ (lt-leb (length l) 40_960 h))
+  printed-long e h = sym (if-true _ _ (eq-eqb (refusalOf s) 0 e) ∙ if-false _ _ (lt-leb (length l) mostBytes h))
 
-  pub printed-ran : refusalOf s ≡ 0 → length l ≤ 40_960 → {q : Ran} {t : Report} → q ≡ runOf s filmOut (opened (instanceOf s)) l → t ≡ reportOf s filmOut (q .buffers)
+  pub printed-ran : refusalOf s ≡ 0 → length l ≤ mostBytes → {q : Ran} {t : Report} → q ≡ runOf s costLimit (opened (instanceOf s)) l → t ≡ reportOf s costLimit (q .buffers)
       → textOf (q .finished) (q .stuck) (q .refusal) t ≡ printed s l
   unfolding printed ranText
   printed-ran e h {q} f g =
       ap (textOf (q .finished) (q .stuck) (q .refusal)) g ∙ ap (ranText s) f
-      ∙ sym (if-true _ _ (eq-eqb (refusalOf s) 0 e) ∙ if-true _ _ (le-leb (length l) 40_960 h))
+      ∙ sym (if-true _ _ (eq-eqb (refusalOf s) 0 e) ∙ if-true _ _ (le-leb (length l) mostBytes h))
 
 -- ---- the parts of the four arrays
 

@@ -9,10 +9,9 @@ use native.Mathlib.Omega.{arith}
 use lib.ListN.{length, take, drop, set, length-append, length-drop, take-append-drop}
 use lib.Seq.{length-take-le, take-at, drop-append-add, drop-drop, set-split, append-snoc}
 use borrow.Author.Tests.{lt-ltb, le-ltb}
-use lib.Dec.{ltb}
-use Rattle.integers.proofs.Places.{by-test, if-true, if-false}
+use Rattle.integers.proofs.Places.{if-true, if-false}
 use Rattle.console.specs.Lines.{line}
-use Rattle.console.specs.Output.{Output, outputs, outputOf, written, Put}
+use Rattle.console.specs.Output.{outputs, outputOf, written, Put}
 
 pub put-none : (at : ℕ) (l : List ℕ) → Put at [] l l at
 unfolding written
@@ -76,12 +75,3 @@ out-short {a} text h = sym (if-true _ _ (lt-ltb (length a) 256 h))
 
 pub out-as : (a : List ℕ) {x y b : List ℕ} {r : ℕ} → x ≡ y → outputs b r ≡ outputOf x a → outputs b r ≡ outputOf y a
 out-as a e p = p ∙ ap (λ (t : List ℕ). outputOf t a) e
-
--- for a caller: the count lies within the buffer
-pub output-counts : (text a : List ℕ) {b : List ℕ} {r : ℕ} → outputs b r ≡ outputOf text a → r ≤ length b
-unfolding outputOf
-output-counts text a {b} {r} e =
-    by-test (ltb (length a) 256)
-    (λ t. let q : outputs b r ≡ outputs a 0 = e ∙ if-true _ _ t in omega (arith, ap (λ (o : Output). o .count) q))
-    (λ t. let q : outputs b r ≡ outputs (text ++ drop (length text) a) (length text) = e ∙ if-false _ _ t in
-    omega (arith, ap (λ (o : Output). o .count) q, ap (λ (o : Output). length (o .bytes)) q, length-append text (drop (length text) a)))

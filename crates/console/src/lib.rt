@@ -2,7 +2,11 @@
 mod lines;
 mod printing;
 mod program;
+mod room;
 mod text;
 
 pub use printing::compose;
+pub use printing::refusal_text;
 pub use program::answer;
+pub use room::record_buffer;
+pub use room::sheet_buffer;

@@ -88,9 +88,9 @@ fn unkept_text(out: &mut [u8], answer: Answer, report: Report) -> usize
     let Report::Bound(bound) = report else {
         return refused_line(out, 0, refusal_of(report));
     };
-    let values = count_lines(out, answer.done, answer.stuck);
-    let stop = bound_lines(out, values, bound);
-    stop_line(out, stop, answer.refusal)
+    let counted = count_lines(out, answer.done, answer.stuck);
+    let told = bound_lines(out, counted, bound);
+    stop_line(out, told, answer.refusal)
 }
 
 // The text of a report that was made of a run's last buffers.
@@ -101,9 +101,9 @@ fn report_text(out: &mut [u8], answer: Answer, report: Report) -> usize
     let Report::Kept(bound, cost, gap) = report else {
         return unkept_text(out, answer, report);
     };
-    let values = count_lines(out, answer.done, answer.stuck);
-    let stop = kept_lines(out, values, bound, cost, gap);
-    stop_line(out, stop, answer.refusal)
+    let counted = count_lines(out, answer.done, answer.stuck);
+    let kept = kept_lines(out, counted, bound, cost, gap);
+    stop_line(out, kept, answer.refusal)
 }
 
 // Puts the text of a run and of the report after it at the start of out, and answers its length; in a buffer of fewer
@@ -122,8 +122,9 @@ pub fn compose(answer: Answer, report: Report, out: &mut [u8]) -> usize
     }
 }
 
-// The same of the line of a refusal.
-pub(crate) fn refuse(refusal: u8, out: &mut [u8]) -> usize
+// Puts the line of a refusal at the start of out, and answers its length; in a buffer of fewer than 256 bytes nothing,
+// and 0.
+pub fn refusal_text(refusal: u8, out: &mut [u8]) -> usize
     ensures { λ r. ⌜ outputs (now (out .exit)) r ≡ outputOf (refusedLine refusal) (now (out .entry)) ⌝ }
 {
     if out.len() < ROOM {

@@ -1,6 +1,6 @@
 // The whole program on lent bytes.
 use crate::printing::compose;
-use crate::printing::refuse;
+use crate::printing::refusal_text;
 use instance::read;
 use instance::refusal::NONE;
 use instance::refusal::PARTIAL_RECORD;
@@ -11,7 +11,7 @@ ghost use mathlib.Core.Path.{_≡_};
 ghost use mathlib.Core.Bool.{true};
 ghost use Rattle.instance.specs.Sheet.{instanceOf, refusalOf};
 ghost use Rattle.rules.specs.Calls.{lengthsOk};
-ghost use Rattle.messages.specs.World.{lent};
+ghost use Rattle.messages.specs.Lent.{lent};
 ghost use Rattle.console.specs.Output.{outputs, outputOf};
 ghost use Rattle.console.specs.Program.{printed};
 
@@ -33,10 +33,10 @@ fn answer_in(
 {
     let refusal = open(sheet, nodes, labels, edges, incumbent);
     if refusal != NONE {
-        return refuse(refusal, out);
+        return refusal_text(refusal, out);
     }
     if MOST_BYTES < records.len() {
-        return refuse(PARTIAL_RECORD, out);
+        return refusal_text(PARTIAL_RECORD, out);
     }
     let ran = run(sheet, records, nodes, labels, edges, incumbent);
     let told = report(sheet, nodes, labels, edges, incumbent);

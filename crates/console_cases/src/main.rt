@@ -2,19 +2,6 @@
 use libc::STDOUT_FILENO;
 use messages::Answer;
 use messages::Report;
-ghost use Rattle.io.specs.Counts.{Counts};
-
-fn read_file(name: &[u8], buffer: &mut [u8]) -> usize
-    ensures { λ r. ⌜ Counts r (now (buffer .exit)) ⌝ }
-{
-    let file = os::open_read(name);
-    if file < 0 {
-        return 0;
-    }
-    let count = io::read_full(file, buffer);
-    libc::close(file);
-    count
-}
 
 fn heading(name: &[u8]) {
     io::write_all(STDOUT_FILENO, b"-- ");
@@ -22,19 +9,16 @@ fn heading(name: &[u8]) {
     io::write_all(STDOUT_FILENO, b"\n");
 }
 
-fn show(sheet: &[u8], records: &[u8]) {
-    let mut text = [0u8; 256];
-    let count = console::answer(sheet, records, &mut text);
-    io::write_all(STDOUT_FILENO, &text[..count]);
+// The program, with its records from a file.
+fn run_files(sheet_name: &[u8], records_name: &[u8]) {
+    let records = os::open_read(records_name);
+    terminal::run(sheet_name, records);
+    libc::close(records);
 }
 
 fn show_files(name: &[u8], sheet_name: &[u8], records_name: &[u8]) {
-    let mut sheet = io::large_buffer();
-    let bytes = read_file(sheet_name, &mut sheet);
-    let mut records = io::large_buffer();
-    let taken = read_file(records_name, &mut records);
     heading(name);
-    show(&sheet[..bytes], &records[..taken]);
+    run_files(sheet_name, records_name);
 }
 
 fn kept_cases() {
@@ -66,31 +50,28 @@ fn other_cases() {
     show_files(b"a distance of 51", b"distance.sheet", b"sample.records");
 }
 
-fn zero_sheet(name: &[u8], length: isize) {
-    let zeros = io::large_buffer();
-    let bytes = io::count(length, &zeros);
-    let none = [0u8; 1];
-    heading(name);
-    show(&zeros[..bytes], &none[..0]);
-}
-
-fn zero_records(name: &[u8], sheet_name: &[u8], length: isize) {
-    let mut sheet = io::large_buffer();
-    let bytes = read_file(sheet_name, &mut sheet);
-    let zeros = io::large_buffer();
-    let taken = io::count(length, &zeros);
-    heading(name);
-    show(&sheet[..bytes], &zeros[..taken]);
-}
-
-// A sheet and a list of records, all of them 0, at the limits of their lengths and past them.
+// Sheets and lists at the limits of their lengths and past them. The lists are roundings, so that one that was cut would
+// be run.
 fn length_cases() {
-    zero_sheet(b"a sheet of 22,096 bytes", 22_096);
-    zero_sheet(b"a sheet of 22,097 bytes", 22_097);
-    zero_records(b"40,960 bytes of records", b"sample.sheet", 40_960);
-    zero_records(b"40,961 bytes of records", b"sample.sheet", 40_961);
-    zero_records(b"40,965 bytes of records", b"sample.sheet", 40_965);
-    zero_records(b"no file, 40,965 bytes", b"missing", 40_965);
+    show_files(b"a sheet of 22,096 bytes", b"zeros-22096", b"missing");
+    show_files(b"a sheet of 22,097 bytes", b"zeros-22097", b"missing");
+    show_files(b"a sheet of 22,100 bytes", b"zeros-22100", b"missing");
+    show_files(
+        b"40,960 bytes of records",
+        b"sample.sheet",
+        b"roundings-40960",
+    );
+    show_files(
+        b"40,961 bytes of records",
+        b"sample.sheet",
+        b"roundings-40961",
+    );
+    show_files(
+        b"40,965 bytes of records",
+        b"sample.sheet",
+        b"roundings-40965",
+    );
+    show_files(b"no file, 40,965 bytes", b"missing", b"roundings-40965");
 }
 
 fn show_text(answer: Answer, report: Report) {

@@ -2,7 +2,7 @@
 -- Assumes nothing.
 use mathlib.Core.Path.{sym}
 use lib.Seq.{length-take-le}
-use Rattle.console.proofs.PutLaws.{output-counts}
+use Rattle.console.proofs.Outputs.{output-counts}
 use borrow.Author.Needs.{needs}
 use Rattle.console_cases.proofs.show_text.Statement.{statement}
 use Rattle.console_cases.proofs.show_text.Tie as tie

@@ -4,7 +4,7 @@ use mathlib.Core.Path.{_≡_, sym}
 use Prim.Native.Nat.{ℕ}
 use lib.ListN.{take, replicate}
 use lib.IntN.{pos}
-use Rattle.messages.specs.World.{lent}
+use Rattle.messages.specs.Lent.{lent}
 use Rattle.console.proofs.ProgramLaws.{Few, few, part-length, parts-sized}
 use Rattle.console.proofs.program.answer.Statement.{statement}
 use Rattle.console.proofs.program.answer.Tie as tie

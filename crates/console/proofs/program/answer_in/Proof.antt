@@ -6,8 +6,8 @@ use Prim.Native.Nat.{ℕ}
 use Rattle.instance.specs.Sheet.{instanceOf, refusalOf}
 use Rattle.rules.specs.Costs.{Buffers, opened}
 use Rattle.rules.specs.Run.{Ran}
-use Rattle.rules.specs.Calls.{Opened, openOf, runOf, filmOut}
-use Rattle.messages.specs.World.{lent}
+use Rattle.rules.specs.Calls.{Opened, openOf, runOf, costLimit}
+use Rattle.messages.specs.Lent.{lent}
 use Rattle.messages.specs.Answers.{ranAs}
 use Rattle.console.proofs.PutLaws.{out-as}
 use Rattle.console.proofs.ProgramLaws.{open-refusal, open-leaves, printed-refused, printed-long, printed-ran}
@@ -15,7 +15,7 @@ use native.Mathlib.Omega.{arith}
 use Rattle.console.proofs.program.answer_in.Statement.{statement}
 use Rattle.console.proofs.program.answer_in.Tie as tie
 use Rattle.console.proofs.printing.compose.Reads as compose-reads
-use Rattle.console.proofs.printing.refuse.Reads as refuse-reads
+use Rattle.console.proofs.printing.refusal_text.Reads as refusal-text-reads
 use Rattle.messages.proofs.run.Reads as run-reads
 use Rattle.messages.proofs.open.Reads as open-reads
 use Rattle.messages.proofs.report.Reads as report-reads
@@ -44,8 +44,8 @@ module _ (p : tie.After-open) where
 open-requires : tie.Need-open-requires
 open-requires c κs = tt
 
-refuse-requires : tie.Need-refuse-requires
-refuse-requires c κs = tt
+refusal-text-requires : tie.Need-refusal-text-requires
+refusal-text-requires c κs = tt
 
 same-length : tie.Need-same-length
 same-length c = c .before .before .before .before .before .before .before .before .before .before .«open» .kept .1 .0
@@ -60,15 +60,15 @@ same-length-4 : tie.Need-same-length-4
 same-length-4 c = c .before .before .before .before .before .before .before .before .before .before .«open» .kept .1 .1 .1 .1 .0
 
 same-length-5 : tie.Need-same-length-5
-same-length-5 c = c .before .before .refuse .kept .1 .0
+same-length-5 c = c .before .before .refusal-text .kept .1 .0
 
 returns : tie.Need-returns
 returns c =
     let p = c .before .before .before .before .before .before .before .before .before .before in
-    out-as (start p .args .out .now) (printed-refused (sheet p) (start p .args .records .now) (number p) (c .before .before .before .before .if1 .taken)) (c .before .before .refuse .ensures)
+    out-as (start p .args .out .now) (printed-refused (sheet p) (start p .args .records .now) (number p) (c .before .before .before .before .if1 .taken)) (c .before .before .refusal-text .ensures)
 
-refuse-requires-2 : tie.Need-refuse-requires-2
-refuse-requires-2 c κs = tt
+refusal-text-requires-2 : tie.Need-refusal-text-requires-2
+refusal-text-requires-2 c κs = tt
 
 same-length-6 : tie.Need-same-length-6
 same-length-6 c = c .before .before .before .before .before .before .before .before .before .before .before .«open» .kept .1 .0
@@ -83,12 +83,12 @@ same-length-9 : tie.Need-same-length-9
 same-length-9 c = c .before .before .before .before .before .before .before .before .before .before .before .«open» .kept .1 .1 .1 .1 .0
 
 same-length-10 : tie.Need-same-length-10
-same-length-10 c = c .before .before .refuse2 .kept .1 .0
+same-length-10 c = c .before .before .refusal-text2 .kept .1 .0
 
 returns-2 : tie.Need-returns-2
 returns-2 c =
     let p = c .before .before .before .before .before .before .before .before .before .before .before in
-    out-as (start p .args .out .now) (printed-long (sheet p) (start p .args .records .now) (readable p (c .before .before .before .before .before .if1 .left)) (omega (arith, c .before .before .before .before .if2 .taken))) (c .before .before .refuse2 .ensures)
+    out-as (start p .args .out .now) (printed-long (sheet p) (start p .args .records .now) (readable p (c .before .before .before .before .before .if1 .left)) (omega (arith, c .before .before .before .before .if2 .taken))) (c .before .before .refusal-text2 .ensures)
 
 run-requires : tie.Need-run-requires
 run-requires c κs = tt
@@ -120,8 +120,8 @@ returns-3 c =
     let run = c .before .before .before .before .before .before .before .before .before .before .before .before .before .before .run in
     let e = readable p (c .before .before .before .before .before .before .before .before .before .before .before .before .before .before .before .before .before .before .before .before .if1 .left) in
     let q : Ran = ranAs (lent (run .last .1 .1 .0) (run .last .1 .1 .1 .0) (run .last .1 .1 .1 .1 .0) (run .last .1 .1 .1 .1 .1 .0)) (run .result) in
-    let f : q ≡ runOf (sheet p) filmOut (opened (instanceOf (sheet p))) (start p .args .records .now) =
-    run .ensures ∙ ap (λ (b : Buffers). runOf (sheet p) filmOut b (start p .args .records .now)) (left p e) in
+    let f : q ≡ runOf (sheet p) costLimit (opened (instanceOf (sheet p))) (start p .args .records .now) =
+    run .ensures ∙ ap (λ (b : Buffers). runOf (sheet p) costLimit b (start p .args .records .now)) (left p e) in
     out-as (start p .args .out .now)
     (printed-ran (sheet p) (start p .args .records .now) e (omega (arith, c .before .before .before .before .before .before .before .before .before .before .before .before .before .before .before .before .before .before .before .if2 .left)) f (c .before .before .before .before .report .ensures))
     (c .before .before .compose .ensures)
@@ -131,14 +131,14 @@ answer-in-spec =
     tie.close
     (tie.spec
     open-requires
-    refuse-requires
+    refusal-text-requires
     same-length
     same-length-2
     same-length-3
     same-length-4
     same-length-5
     returns
-    refuse-requires-2
+    refusal-text-requires-2
     same-length-6
     same-length-7
     same-length-8

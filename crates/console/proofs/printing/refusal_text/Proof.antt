@@ -1,10 +1,10 @@
--- `refuse` meets its contract.
+-- `refusal_text` meets its contract.
 -- Assumes nothing.
 use Rattle.console.specs.Lines.{refusedLine}
 use Rattle.console.proofs.PutLaws.{put-out, out-short}
 use borrow.Author.Needs.{needs}
-use Rattle.console.proofs.printing.refuse.Statement.{statement}
-use Rattle.console.proofs.printing.refuse.Tie as tie
+use Rattle.console.proofs.printing.refusal_text.Statement.{statement}
+use Rattle.console.proofs.printing.refusal_text.Tie as tie
 use Rattle.console.proofs.lines.refused_line.Reads as refused-line-reads
 
 returns : tie.Need-returns
@@ -19,5 +19,5 @@ same-length c = search needs
 returns-2 : tie.Need-returns-2
 returns-2 c = put-out (c .before .before .before .before .if1 .left) (c .before .before .refused-line .ensures .0)
 
-pub refuse-spec : {M : Type 1} → statement M
-refuse-spec = tie.close (tie.spec returns refused-line-requires same-length returns-2)
+pub refusal-text-spec : {M : Type 1} → statement M
+refusal-text-spec = tie.close (tie.spec returns refused-line-requires same-length returns-2)

@@ -2,10 +2,10 @@
 -- Assumes nothing.
 use mathlib.Core.Path.{sym}
 use lib.Seq.{length-take-le}
-use Rattle.console.proofs.PutLaws.{output-counts}
+use Rattle.console.proofs.Outputs.{output-counts}
 use borrow.Author.Needs.{needs}
-use Rattle.cirbaldu.proofs.print.Statement.{statement}
-use Rattle.cirbaldu.proofs.print.Tie as tie
+use Rattle.terminal.proofs.print.Statement.{statement}
+use Rattle.terminal.proofs.print.Tie as tie
 
 slice-aggregate-answer : tie.Need-slice-aggregate-answer
 slice-aggregate-answer c = search needs

@@ -1,0 +1,124 @@
+-- `sweep_at_start` meets its contract: the part lent has the sweep's own length.
+-- Assumes nothing.
+use mathlib.Core.Path.{_≡_, sym, _∙_}
+use mathlib.Core.List.{List, _++_}
+use Prim.Native.Nat.{ℕ, _+_, _*_, _≤_}
+use native.Mathlib.Omega.{arith}
+use lib.ListN.{length, take, drop, length-append}
+use lib.Seq.{length-take-le, take-at}
+use denote.Ref.{now}
+use Rattle.sweep.proofs.SweepLaws.{Few, few, sized, Left, left, written-all, written-none}
+use borrow.Author.Needs.{needs}
+use Rattle.sweep.proofs.writing.sweep_at_start.Statement.{statement}
+use Rattle.sweep.proofs.writing.sweep_at_start.Tie as tie
+use Rattle.instance.proofs.read.Reads as read-reads
+use Rattle.schedule.proofs.write_sweep.Reads as write-sweep-reads
+
+-- what reading answered is small, so that the longest sweep has room
+small : (p : tie.After-read) → Few (p .read .result)
+small p = few (now (p .before .before .before .args .sheet)) (p .read .ensures)
+
+module _ (p : tie.After-read) where
+  abbrev start : tie.Start
+  start = p .before .before .before
+
+  abbrev count : ℕ
+  count = 5 * (2 * p .read .result .edges + p .read .result .positions + 1)
+
+  fits : count ≤ length (now (start .args .out))
+  fits = omega (arith, small p, start .pre)
+
+  part-long : length (take count (now (start .args .out))) ≡ count
+  part-long = length-take-le count (now (start .args .out)) fits
+
+-- what was written, and what stands there then
+module _ (w : tie.After-write-sweep) where
+  abbrev known : tie.After-read
+  known = w .before .before .before .before
+
+  abbrev sheet : List ℕ
+  sheet = now (start known .args .sheet)
+
+  abbrev list : List ℕ
+  list = w .write-sweep .last .1 .1 .0
+
+  abbrev all : List ℕ
+  all = list ++ drop (count known) (now (start known .args .out))
+
+  long : length list ≡ count known
+  long = w .write-sweep .kept .1 .1 .0 ∙ part-long known
+
+  done : Left sheet (start known .args .direction) list (w .write-sweep .result)
+  done = left sheet (start known .args .direction) (take (count known) (now (start known .args .out))) (sized sheet (known .read .ensures) (part-long known)) (w .write-sweep .ensures)
+
+  ahead : take (count known) all ≡ list
+  ahead = take-at list (drop (count known) (now (start known .args .out))) (count known) long
+
+  room : count known ≤ length all
+  room = omega (arith, length-append list (drop (count known) (now (start known .args .out))), long)
+
+read-requires : tie.Need-read-requires
+read-requires c κs = search needs
+
+mul-count : tie.Need-mul-count
+mul-count c = omega (arith, small (c .before))
+
+add-count : tie.Need-add-count
+add-count c = omega (arith, small (c .before .before))
+
+add-count-2 : tie.Need-add-count-2
+add-count-2 c = omega (arith, small (c .before .before))
+
+mul-count-2 : tie.Need-mul-count-2
+mul-count-2 c = omega (arith, small (c .before .before))
+
+slice-relend-prefix-write-sweep : tie.Need-slice-relend-prefix-write-sweep
+slice-relend-prefix-write-sweep c = fits (c .before .before)
+
+slice-aggregate-write-sweep : tie.Need-slice-aggregate-write-sweep
+slice-aggregate-write-sweep c = sym (part-long (c .before .before .before))
+
+write-sweep-requires : tie.Need-write-sweep-requires
+write-sweep-requires c κs = search needs
+
+same-length : tie.Need-same-length
+same-length c = search needs
+
+returns : tie.Need-returns
+returns c =
+    let w = c .before .before .before in
+    let z = c .if1 .taken in
+    record {
+      number = done w .number;
+      text = ahead w ∙ done w .content z ∙ written-all (sheet w) (start (known w) .args .direction) (sym (done w .number) ∙ z);
+      room = room w;
+    }
+
+same-length-2 : tie.Need-same-length-2
+same-length-2 c = search needs
+
+returns-2 : tie.Need-returns-2
+returns-2 c =
+    let w = c .before .before .before in
+    record {
+      number = done w .number;
+      text = written-none (sheet w) (start (known w) .args .direction) (λ z. c .if1 .left (done w .number ∙ z));
+      room = omega arith;
+    }
+
+pub sweep-at-start-spec : {M : Type 1} → statement M
+sweep-at-start-spec =
+    tie.close
+    (tie.spec
+    read-requires
+    mul-count
+    add-count
+    add-count-2
+    mul-count-2
+    slice-relend-prefix-write-sweep
+    slice-aggregate-write-sweep
+    write-sweep-requires
+    same-length
+    returns
+    same-length-2
+    returns-2)
