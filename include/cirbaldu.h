@@ -1,9 +1,15 @@
 /* Graph matching on register sheets: the calls of libexports.a, for C and Rust.
  *
- * A sheet's format, the records, the sweeps and the refusals' numbers are those of document 01; 0 is no
- * refusal. A slice passes as a pointer and its length, counted in elements. As in Rust, the pointer is
+ * docs/FORMAT.md has the sheet's format, the records, the sweeps and the refusals with their numbers; 0 is
+ * no refusal. A slice passes as a pointer and its length, counted in elements. As in Rust, the pointer is
  * aligned and not null, not even for a length of 0, and a buffer that a call may write overlaps no other
  * slice of that call. The rest each call checks itself: it takes any content and any length, and returns.
+ *
+ * Each call returns a refusal's number. A refusal alters nothing but what is said here of the counts of a
+ * run, of the answer of a reading and of the span of an edge, which carry an answer of their own then. A
+ * buffer of another number of places than stated, an answer's too, is refused with 8, where 8 stands in the
+ * order of the checks, and ahead of any effect. So read what a call stores only if it returned 0, or if it
+ * is one of those three and did not return 8.
  *
  * Each call reads the sheet afresh, keeps nothing between calls, allocates nothing, and writes only the
  * buffers of which it is said here. What is said of each is proved of the source; this file is not read by
@@ -20,11 +26,11 @@ extern "C" {
 #endif
 
 /* Reads a sheet.
- * answer, with 326 places: the refusal (1 to 7), n, L, E, N, M, the 64 node starts and the 256 edge starts,
- * counted in cells. Unused places, and all but the refusal when refused, are 0.
- * answer with another number of places: nothing is written. */
-void cirbaldu_read(const uint8_t *sheet, size_t sheet_len,
-                   uint64_t *answer, size_t answer_len);
+ * Returns the refusal: 1 to 7, then 8 if answer has not exactly 326 places.
+ * answer: the refusal, n, L, E, N, M, the 64 node starts and the 256 edge starts, counted in cells. Unused
+ * places, and all but the refusal when it is 1 to 7, are 0. With another number of places nothing is written. */
+uint8_t cirbaldu_read(const uint8_t *sheet, size_t sheet_len,
+                      uint64_t *answer, size_t answer_len);
 
 /* Opens a sheet: fills nodes with its N node prices, labels with N times 0, edges with its M edge prices and
  * incumbent with n bytes of 255, none kept. What they held before does not matter.
@@ -38,9 +44,9 @@ uint8_t cirbaldu_open(const uint8_t *sheet, size_t sheet_len,
 
 /* Runs a list of records, of 5 bytes each, on the four buffers.
  * Returns the refusal: 1 to 11 ahead of the first record, when nothing but counts is written; 12 or 13 at a
- * record, when the buffers are as the records before it left them.
- * counts, with 2 places: the records done and the roundings stuck, so far when refused.
- * counts with another number of places: it is not written, and the run is as ever. */
+ * record, when the buffers are as the records before it left them. 8 is for the four buffers and for counts.
+ * counts, with exactly 2 places: the records done and the roundings stuck, so far when refused. With another
+ * number of places nothing is run and nothing is written. */
 uint8_t cirbaldu_run(const uint8_t *sheet, size_t sheet_len,
                      const uint8_t *records, size_t records_len,
                      int64_t *nodes, size_t nodes_len,
@@ -50,10 +56,10 @@ uint8_t cirbaldu_run(const uint8_t *sheet, size_t sheet_len,
                      uint64_t *counts, size_t counts_len);
 
 /* Reports on the four buffers.
- * Returns the refusal: 1 to 10, or 14 where the bound exceeds the kept cost.
- * values, with 4 places: 1 if a matching is kept, else 0; the bound; the kept matching's cost on the sheet;
- * the gap, cost less bound. With none kept cost and gap are 0; when refused, all four are.
- * values with another number of places: nothing is written. */
+ * Returns the refusal: 1 to 10, or 14 where the bound exceeds the kept cost. 8 is for the four buffers and
+ * for values. When refused, nothing is written.
+ * values, with exactly 4 places: 1 if a matching is kept, else 0; the bound; the kept matching's cost on the
+ * sheet; the gap, cost less bound. With none kept cost and gap are 0 and mean nothing: read the first place. */
 uint8_t cirbaldu_report(const uint8_t *sheet, size_t sheet_len,
                         const int64_t *nodes, size_t nodes_len,
                         const int64_t *labels, size_t labels_len,
@@ -69,10 +75,10 @@ uint8_t cirbaldu_sweep(const uint8_t *sheet, size_t sheet_len,
                        uint8_t *out, size_t out_len);
 
 /* Shows an edge: where in the sheet its prices stand.
- * Returns the refusal: 1 to 7 for the sheet, 12 for an edge that does not exist.
- * span, with 2 places: where the prices begin, in bytes from the sheet's first, and how many bytes they
- * take; 0 and 0 when refused.
- * span with another number of places: nothing is written. */
+ * Returns the refusal: 1 to 7 for the sheet, 12 for an edge that does not exist, then 8 if span has not
+ * exactly 2 places.
+ * span: where the prices begin, in bytes from the sheet's first, and how many bytes they take; 0 and 0 when
+ * refused with 1 to 7 or 12. With another number of places nothing is written. */
 uint8_t cirbaldu_edge(const uint8_t *sheet, size_t sheet_len,
                       size_t edge,
                       uint64_t *span, size_t span_len);

@@ -10,12 +10,12 @@ use Rattle.integers.proofs.Totals.{offset-more}
 use Rattle.instance.specs.declared.reading.Layout.{Layout}
 use Rattle.instance.specs.Instance.{Instance, first, tableSize, table}
 use Rattle.instance.specs.Sheet.{instanceOf}
-use Rattle.instance.specs.Layout.{layoutOf, edgeRefusalOf, edgeFrom, edgeBytes}
-use Rattle.instance.specs.Passes.{EdgeAsked}
+use Rattle.instance.specs.Layout.{layoutOf, edgeRefusalOf, edgeFrom, edgeBytes, EdgeAsked}
 use Rattle.instance.proofs.LaidOut.{LaidOut, laid-out, table-inside, table-few}
 use Rattle.instance.proofs.Shown.{laid, there, unrefused, edge-inside, edge-shown, edge-placed, edge-hidden, edge-unplaced}
-use Rattle.exports.specs.Stored.{storedIn, answered}
+use Rattle.exports.specs.Stored.{answered, unlent}
 use Rattle.exports.specs.Reading.{spanOf, shownIn}
+use Rattle.exports.proofs.StoreLaws.{lent-well, lent-ill}
 
 abbrev I : List ℕ → Instance
 I s = instanceOf s
@@ -79,14 +79,15 @@ module _ (s : List ℕ) {l : Layout} {e : ℕ} (a : EdgeAsked s l e) where
   span-by f t = ap₂ (λ (p b : ℕ). p ∷ b ∷ []) (from-by f) (bytes-by (sized f t)) ∙ span-shown
 
 module _ (s : List ℕ) (e : ℕ) where
-  span-hidden : (edgeRefusalOf s e ≡ 0 → ⊥) → (0 ∷ 0 ∷ []) ≡ spanOf s e
+  pub span-hidden : (edgeRefusalOf s e ≡ 0 → ⊥) → (0 ∷ 0 ∷ []) ≡ spanOf s e
   unfolding spanOf
   span-hidden z = ap₂ (λ (p b : ℕ). p ∷ b ∷ []) (sym (edge-unplaced s e z)) (sym (ap length (edge-hidden s e z)))
 
-  -- a number and a span stored
-  pub shown-by : {k : ℕ} (span : List ℕ) {lent : List ℕ} → k ≡ edgeRefusalOf s e → lent ≡ storedIn 2 (spanOf s e) span → answered k lent ≡ shownIn s e span
+  -- a number and a span stored, or neither
+  pub shown-by : {k : ℕ} (span : List ℕ) {lent : List ℕ} → length span ≡ 2 → k ≡ edgeRefusalOf s e → lent ≡ spanOf s e → answered k lent ≡ shownIn s e span
   unfolding shownIn
-  shown-by span r m = ap₂ answered r m
+  shown-by span h r m = ap₂ answered r m ∙ lent-well 2 (edgeRefusalOf s e) (answered (edgeRefusalOf s e) (spanOf s e)) span h
 
-  pub hidden-by : {k : ℕ} (span : List ℕ) {lent : List ℕ} → k ≡ edgeRefusalOf s e → (k ≡ 0 → ⊥) → lent ≡ storedIn 2 (0 ∷ 0 ∷ []) span → answered k lent ≡ shownIn s e span
-  hidden-by span r z m = shown-by span r (m ∙ ap (λ (v : List ℕ). storedIn 2 v span) (span-hidden (λ h. z (r ∙ h))))
+  pub shown-ill : {k : ℕ} (span : List ℕ) → (length span ≡ 2 → ⊥) → k ≡ unlent (edgeRefusalOf s e) → answered k span ≡ shownIn s e span
+  unfolding shownIn
+  shown-ill span h r = lent-ill 2 (edgeRefusalOf s e) (answered (edgeRefusalOf s e) (spanOf s e)) span h r

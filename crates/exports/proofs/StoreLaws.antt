@@ -10,17 +10,17 @@ use lib.Seq.{ext-getD, sets, sets-eq, take-at, drop-at, drop-drop}
 use borrow.Rule.Slice.PartMut.{putMid}
 use Rattle.integers.specs.Places.{tabulate}
 use Rattle.integers.proofs.Places.{if-true, if-false, length-tabulate, getD-tabulate}
-use Rattle.exports.specs.Stored.{storedIn}
+use Rattle.exports.specs.Stored.{Answered, answered, unlent, answeredIn}
 
 module _ {A : Type 0} where
   -- a buffer with that many places, and one without
-  pub stored : (n : ℕ) (vs l : List A) → length l ≡ n → vs ≡ storedIn n vs l
-  unfolding storedIn
-  stored n vs l h = sym (if-true vs l (eq-eqb (length l) n h))
+  pub lent-well : (n k : ℕ) (a : Answered A) (l : List A) → length l ≡ n → a ≡ answeredIn n k a l
+  unfolding answeredIn
+  lent-well n k a l h = sym (if-true a (answered (unlent k) l) (eq-eqb (length l) n h))
 
-  pub unstored : (n : ℕ) (vs l : List A) → (length l ≡ n → ⊥) → l ≡ storedIn n vs l
-  unfolding storedIn
-  unstored n vs l h = sym (if-false vs l (ne-eqb (length l) n h))
+  pub lent-ill : (n k : ℕ) (a : Answered A) (l : List A) {r : ℕ} → (length l ≡ n → ⊥) → r ≡ unlent k → answered r l ≡ answeredIn n k a l
+  unfolding answeredIn
+  lent-ill n k a l h e = ap (λ (r : ℕ). answered r l) e ∙ sym (if-false a (answered (unlent k) l) (ne-eqb (length l) n h))
 
   -- the elements of a list, one by one
   pub tabulate-each : (vs : List A) (d : A) → tabulate (length vs) (λ k. getD vs k d) ≡ vs

@@ -1,11 +1,15 @@
 -- The answers of a run and of a report as numbers.
+use mathlib.Core.Bool.{cond}
 use mathlib.Core.List.{List, [], _∷_}
 use Prim.Native.Nat.{ℕ}
+use lib.Dec.{eqb}
+use lib.ListN.{length}
 use lib.IntN.{ℤ, pos}
+use Rattle.instance.specs.Sheet.{refusalOf}
 use Rattle.rules.specs.Costs.{Buffers}
 use Rattle.rules.specs.Run.{Ran}
-use Rattle.rules.specs.Calls.{Report, refused, bound, kept}
-use Rattle.exports.specs.Stored.{storedIn, Answered, answered}
+use Rattle.rules.specs.Calls.{Report, refused, bound, kept, costLimit, runOf, reportOf}
+use Rattle.exports.specs.Stored.{Answered, answered, unlent, answeredIn}
 
 -- ---- a run: the four buffers, the refusal, and the counts
 
@@ -18,8 +22,12 @@ abbrev pub outcome : Buffers → ℕ → List ℕ → Outcome
 outcome b refusal counts = record { buffers = b; refusal = refusal; counts = counts }
 
 -- "the records done, the roundings stuck and, if it stopped, the refusal"
-unfoldable pub ranIn : Ran → List ℕ → Outcome
-ranIn q counts = outcome (q .buffers) (q .refusal) (storedIn 2 (q .finished ∷ q .stuck ∷ []) counts)
+unfoldable pub ranAs : Ran → Outcome
+ranAs q = outcome (q .buffers) (q .refusal) (q .finished ∷ q .stuck ∷ [])
+
+-- with another number of places for the counts nothing is run
+unfoldable pub ranIn : List ℕ → Buffers → List ℕ → List ℕ → Outcome
+ranIn s b l counts = cond (eqb (length counts) 2) (ranAs (runOf s costLimit b l)) (outcome b (unlent (refusalOf s)) counts)
 
 -- ---- a report: its number, and four values: 1 if one is kept, the bound, the cost, the gap
 
@@ -28,10 +36,11 @@ numberOf (refused k) = k
 numberOf (bound z) = 0
 numberOf (kept z p g) = 0
 
-unfoldable pub valuesOf : Report → List ℤ
-valuesOf (refused k) = pos 0 ∷ pos 0 ∷ pos 0 ∷ pos 0 ∷ []
-valuesOf (bound z) = pos 0 ∷ z ∷ pos 0 ∷ pos 0 ∷ []
-valuesOf (kept z p g) = pos 1 ∷ z ∷ p ∷ g ∷ []
+-- a refused report leaves them as they were
+unfoldable pub valuesIn : List ℤ → Report → List ℤ
+valuesIn values (refused k) = values
+valuesIn values (bound z) = pos 0 ∷ z ∷ pos 0 ∷ pos 0 ∷ []
+valuesIn values (kept z p g) = pos 1 ∷ z ∷ p ∷ g ∷ []
 
-unfoldable pub reportedIn : Report → List ℤ → Answered ℤ
-reportedIn q values = answered (numberOf q) (storedIn 4 (valuesOf q) values)
+unfoldable pub reportedIn : List ℕ → Buffers → List ℤ → Answered ℤ
+reportedIn s b values = let q = reportOf s costLimit b in answeredIn 4 (refusalOf s) (answered (numberOf q) (valuesIn values q)) values

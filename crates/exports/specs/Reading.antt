@@ -3,8 +3,9 @@ use mathlib.Core.List.{List, [], _∷_, _++_}
 use Prim.Native.Nat.{ℕ}
 use lib.ListN.{length}
 use Rattle.instance.specs.declared.reading.Layout.{Layout}
-use Rattle.instance.specs.Layout.{edgeRefusalOf, edgePlaceOf, edgePricesOf}
-use Rattle.exports.specs.Stored.{storedIn, Answered, answered}
+use Rattle.instance.specs.Sheet.{refusalOf}
+use Rattle.instance.specs.Layout.{layoutOf, edgeRefusalOf, edgePlaceOf, edgePricesOf}
+use Rattle.exports.specs.Stored.{Answered, answered, answeredIn}
 
 -- the refusal, n, L, E, N, M
 unfoldable pub countsOf : Layout → List ℕ
@@ -14,10 +15,14 @@ countsOf l = l .refusal ∷ l .nodes ∷ l .labels ∷ l .edges ∷ l .positions
 unfoldable pub numbersOf : Layout → List ℕ
 numbersOf l = countsOf l ++ (l .starts ++ l .tables)
 
+-- what reading answers, and leaves in the lent buffer: all of it but the refusal is 0 when the sheet is refused
+unfoldable pub readIn : List ℕ → List ℕ → Answered ℕ
+readIn s lent = answeredIn 326 (refusalOf s) (answered (refusalOf s) (numbersOf (layoutOf s))) lent
+
 -- where the shown part begins in the sheet, and how many bytes it has: 0 and 0 where the edge is not shown
 unfoldable pub spanOf : List ℕ → ℕ → List ℕ
 spanOf s e = edgePlaceOf s e ∷ length (edgePricesOf s e) ∷ []
 
--- what showing an edge answers, and leaves in the lent span
+-- what showing an edge answers, and leaves in the lent span; the edge (12) comes before the span (8), as a sweep's direction does
 unfoldable pub shownIn : List ℕ → ℕ → List ℕ → Answered ℕ
-shownIn s e span = answered (edgeRefusalOf s e) (storedIn 2 (spanOf s e) span)
+shownIn s e span = answeredIn 2 (edgeRefusalOf s e) (answered (edgeRefusalOf s e) (spanOf s e)) span

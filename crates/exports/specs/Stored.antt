@@ -5,10 +5,6 @@ use Prim.Native.Nat.{ℕ}
 use lib.Dec.{eqb}
 use lib.ListN.{length}
 
--- the buffer afterwards: the values where it has that many places, and in any other length what it held
-unfoldable pub storedIn : {A : Type 0} → ℕ → List A → List A → List A
-storedIn places values lent = cond (eqb (length lent) places) values lent
-
 -- a refusal's number beside a buffer
 pub record Answered (A : Type 0) : Type 0 where
   pub refusal : ℕ
@@ -16,3 +12,11 @@ pub record Answered (A : Type 0) : Type 0 where
 
 abbrev pub answered : {A : Type 0} → ℕ → List A → Answered A
 answered refusal lent = record { refusal = refusal; lent = lent }
+
+-- 8, "a lent buffer not exactly" so long, after the refusals that come before it
+unfoldable pub unlent : ℕ → ℕ
+unlent before = cond (eqb before 0) 8 before
+
+-- an answer in a buffer of so many places; one of another length is refused, and left as it was
+unfoldable pub answeredIn : {A : Type 0} → ℕ → ℕ → Answered A → List A → Answered A
+answeredIn places before answer lent = cond (eqb (length lent) places) answer (answered (unlent before) lent)

@@ -1,14 +1,16 @@
 // Opening, running, reporting.
-use crate::storing::store;
+use crate::storing::copy;
+use crate::storing::refuse_length;
 use crate::storing::store_costs;
+use instance::read;
 use instance::refusal::NONE;
 use messages::Report;
 use messages::open;
 use messages::report;
 use messages::run;
 ghost use mathlib.Core.Path.{_≡_};
-ghost use Rattle.rules.specs.Calls.{filmOut, openOf, runOf, reportOf};
-ghost use Rattle.messages.specs.World.{lent, opens};
+ghost use Rattle.rules.specs.Calls.{openOf};
+ghost use Rattle.messages.specs.Lent.{lent, opens};
 ghost use Rattle.exports.specs.Stored.{answered};
 ghost use Rattle.exports.specs.Moving.{outcome, ranIn, reportedIn};
 
@@ -26,7 +28,7 @@ pub extern "C" fn cirbaldu_open(
     open(sheet, nodes, labels, edges, incumbent)
 }
 
-// Runs a list of records; answers the refusal. Of two places, `counts` has the records done and the roundings stuck.
+// Runs a list of records; answers the refusal. `counts`, of two places, has the records done and the roundings stuck.
 #[no_mangle]
 pub extern "C" fn cirbaldu_run(
     sheet: &[u8],
@@ -37,15 +39,20 @@ pub extern "C" fn cirbaldu_run(
     incumbent: &mut [u8],
     counts: &mut [u64],
 ) -> u8
-    ensures { λ r. ⌜ outcome (lent (now (nodes .exit)) (now (labels .exit)) (now (edges .exit)) (now (incumbent .exit))) r (now (counts .exit)) ≡ ranIn (runOf (now (sheet .entry)) filmOut (lent (now (nodes .entry)) (now (labels .entry)) (now (edges .entry)) (now (incumbent .entry))) (now (records .entry))) (now (counts .entry)) ⌝ }
+    ensures { λ r. ⌜ outcome (lent (now (nodes .exit)) (now (labels .exit)) (now (edges .exit)) (now (incumbent .exit))) r (now (counts .exit)) ≡ ranIn (now (sheet .entry)) (lent (now (nodes .entry)) (now (labels .entry)) (now (edges .entry)) (now (incumbent .entry))) (now (records .entry)) (now (counts .entry)) ⌝ }
 {
+    if counts.len() != 2 {
+        let layout = read(sheet);
+        return refuse_length(layout.refusal);
+    }
     let answer = run(sheet, records, nodes, labels, edges, incumbent);
     let both = [answer.done, answer.stuck];
-    store(&both, counts);
+    copy(&both, counts);
     answer.refusal
 }
 
-// Reports; answers the refusal. Of four places, `values` has 1 if a matching is kept, the bound, its cost and the gap, 0 for what is absent.
+// Reports; answers the refusal. `values`, of four places, has 1 if a matching is kept, the bound, its cost and the gap, 0
+// for what is absent. A refused report leaves it as it was.
 #[no_mangle]
 pub extern "C" fn cirbaldu_report(
     sheet: &[u8],
@@ -55,14 +62,15 @@ pub extern "C" fn cirbaldu_report(
     incumbent: &[u8],
     values: &mut [i64],
 ) -> u8
-    ensures { λ r. ⌜ answered r (now (values .exit)) ≡ reportedIn (reportOf (now (sheet .entry)) filmOut (lent (now (nodes .entry)) (now (labels .entry)) (now (edges .entry)) (now (incumbent .entry)))) (now (values .entry)) ⌝ }
+    ensures { λ r. ⌜ answered r (now (values .exit)) ≡ reportedIn (now (sheet .entry)) (lent (now (nodes .entry)) (now (labels .entry)) (now (edges .entry)) (now (incumbent .entry))) (now (values .entry)) ⌝ }
 {
+    if values.len() != 4 {
+        let layout = read(sheet);
+        return refuse_length(layout.refusal);
+    }
     let told = report(sheet, nodes, labels, edges, incumbent);
     match told {
-        Report::Refused(refusal) => {
-            store_costs(0, 0, 0, 0, values);
-            refusal
-        }
+        Report::Refused(refusal) => refusal,
         Report::Bound(bound) => {
             store_costs(0, bound, 0, 0, values);
             NONE

@@ -1,19 +1,19 @@
 // Reading, and showing an edge.
 use crate::storing::copy;
-use crate::storing::store;
+use crate::storing::refuse_length;
+use index::wide;
 use instance::Layout;
+use instance::edge_refusal_in;
 use instance::read;
-use instance::refusal::NO_SUCH_RECORD;
 use instance::refusal::NONE;
 ghost use mathlib.Core.Path.{_≡_};
 ghost use Prim.Native.Nat.{_≤_};
 ghost use lib.ListN.{length};
 ghost use Rattle.instance.specs.Instance.{table};
 ghost use Rattle.instance.specs.Sheet.{instanceOf};
-ghost use Rattle.instance.specs.Layout.{layoutOf};
-ghost use Rattle.instance.specs.Passes.{EdgeAsked};
-ghost use Rattle.exports.specs.Stored.{storedIn, answered};
-ghost use Rattle.exports.specs.Reading.{countsOf, numbersOf, spanOf, shownIn};
+ghost use Rattle.instance.specs.Layout.{layoutOf, EdgeAsked};
+ghost use Rattle.exports.specs.Stored.{answered};
+ghost use Rattle.exports.specs.Reading.{countsOf, readIn, spanOf, shownIn};
 
 // The refusal and the five counts.
 fn copy_counts(layout: Layout, lent: &mut [u64])
@@ -31,25 +31,22 @@ fn copy_counts(layout: Layout, lent: &mut [u64])
     copy(&counts, lent);
 }
 
-fn wide(x: u8) -> usize
-    ensures { λ r. ⌜ r ≡ x ⌝ }
-{
-    x as usize
-}
-
-// Reads a sheet. Of 326 places, `answer` has the refusal, n, L, E, N, M, the 64 node starts and the 256 edge starts.
+// Reads a sheet; answers the refusal. `answer`, of 326 places, has the refusal, n, L, E, N, M, the 64 node starts and the
+// 256 edge starts.
 #[no_mangle]
-pub extern "C" fn cirbaldu_read(sheet: &[u8], answer: &mut [u64])
-    ensures { λ _. ⌜ now (answer .exit) ≡ storedIn 326 (numbersOf (layoutOf (now (sheet .entry)))) (now (answer .entry)) ⌝ }
+pub extern "C" fn cirbaldu_read(sheet: &[u8], answer: &mut [u64]) -> u8
+    ensures { λ r. ⌜ answered r (now (answer .exit)) ≡ readIn (now (sheet .entry)) (now (answer .entry)) ⌝ }
 {
-    if answer.len() == 326 {
-        let layout = read(sheet);
-        let starts = layout.starts;
-        let tables = layout.tables;
-        copy_counts(layout, &mut answer[..6]);
-        copy(&starts, &mut answer[6..70]);
-        copy(&tables, &mut answer[70..326]);
+    let layout = read(sheet);
+    if answer.len() != 326 {
+        return refuse_length(layout.refusal);
     }
+    let starts = layout.starts;
+    let tables = layout.tables;
+    copy_counts(layout, &mut answer[..6]);
+    copy(&starts, &mut answer[6..70]);
+    copy(&tables, &mut answer[70..326]);
+    layout.refusal
 }
 
 // Where the table of an edge begins, counted in cells; past the last edge, where all tables end.
@@ -68,31 +65,32 @@ fn table_at(sheet: &[u8], layout: Layout, edge: usize) -> usize
 // The span of an edge that is there.
 fn store_span(sheet: &[u8], layout: Layout, edge: usize, span: &mut [u64])
     requires { ⌜ EdgeAsked (now sheet) layout edge ⌝ }
-    ensures { λ _. ⌜ now (span .exit) ≡ storedIn 2 (spanOf (now (sheet .entry)) edge) (now (span .entry)) ⌝ }
+    requires { ⌜ length (now span) ≡ 2 ⌝ }
+    ensures { λ _. ⌜ now (span .exit) ≡ spanOf (now (sheet .entry)) edge ⌝ }
 {
     let prices = layout.nodes + 5 * layout.positions + 2 * layout.edges;
     let from = table_at(sheet, layout, edge);
     let to = table_at(sheet, layout, edge + 1);
     let place = [prices + 4 * from, 4 * (to - from)];
-    store(&place, span);
+    copy(&place, span);
 }
 
-// Shows an edge; answers the refusal. Of two places, `span` has where its prices begin in the sheet and how many bytes they take.
+// Shows an edge; answers the refusal. `span`, of two places, has where its prices begin in the sheet and how many bytes
+// they take: 0 and 0 for an edge that is not shown.
 #[no_mangle]
 pub extern "C" fn cirbaldu_edge(sheet: &[u8], edge: usize, span: &mut [u64]) -> u8
     ensures { λ r. ⌜ answered r (now (span .exit)) ≡ shownIn (now (sheet .entry)) edge (now (span .entry)) ⌝ }
 {
-    let nowhere = [0, 0];
     let layout = read(sheet);
-    if layout.refusal != NONE {
-        store(&nowhere, span);
-        return layout.refusal;
+    let refusal = edge_refusal_in(layout, edge);
+    if span.len() != 2 {
+        return refuse_length(refusal);
     }
-    if edge < layout.edges {
+    if refusal == NONE {
         store_span(sheet, layout, edge, span);
-        NONE
-    } else {
-        store(&nowhere, span);
-        NO_SUCH_RECORD
+        return NONE;
     }
+    let nowhere = [0, 0];
+    copy(&nowhere, span);
+    refusal
 }

@@ -1,8 +1,21 @@
-// Storing numbers in a lent buffer: all of them where it has that many places, else nothing.
+// Storing numbers in a lent buffer, and the refusal of one that has another number of places.
+use instance::refusal::BUFFER_LENGTH;
+use instance::refusal::NONE;
 ghost use mathlib.Core.Path.{_≡_};
 ghost use mathlib.Core.List.{[], _∷_};
 ghost use lib.ListN.{length};
-ghost use Rattle.exports.specs.Stored.{storedIn};
+ghost use Rattle.exports.specs.Stored.{unlent};
+
+// The refusals that come before 8, and then 8.
+pub(crate) fn refuse_length(before: u8) -> u8
+    ensures { λ r. ⌜ r ≡ unlent before ⌝ }
+{
+    if before == NONE {
+        BUFFER_LENGTH
+    } else {
+        before
+    }
+}
 
 pub(crate) fn copy(values: &[usize], lent: &mut [u64])
     requires { ⌜ length (now lent) ≡ length (now values) ⌝ }
@@ -15,22 +28,13 @@ pub(crate) fn copy(values: &[usize], lent: &mut [u64])
     }
 }
 
-pub(crate) fn store(values: &[usize], lent: &mut [u64])
-    ensures { λ _. ⌜ now (lent .exit) ≡ storedIn (length (now (values .entry))) (now (values .entry)) (now (lent .entry)) ⌝ }
-{
-    if lent.len() == values.len() {
-        copy(values, lent);
-    }
-}
-
 // Four costs: 1 if a matching is kept, the bound, its cost, the gap.
 pub(crate) fn store_costs(kept: i64, bound: i64, cost: i64, gap: i64, lent: &mut [i64])
-    ensures { λ _. ⌜ now (lent .exit) ≡ storedIn 4 (kept ∷ bound ∷ cost ∷ gap ∷ []) (now (lent .entry)) ⌝ }
+    requires { ⌜ length (now lent) ≡ 4 ⌝ }
+    ensures { λ _. ⌜ now (lent .exit) ≡ (kept ∷ bound ∷ cost ∷ gap ∷ []) ⌝ }
 {
-    if lent.len() == 4 {
-        lent[0] = kept;
-        lent[1] = bound;
-        lent[2] = cost;
-        lent[3] = gap;
-    }
+    lent[0] = kept;
+    lent[1] = bound;
+    lent[2] = cost;
+    lent[3] = gap;
 }

@@ -1,6 +1,7 @@
 // The calls over the four buffers: open, run, report. Each is made on copies of the buffers, which are then those of
 // the next call. `at` is the place of the call's parameters.
 use crate::file::after;
+use crate::file::byte_at;
 use crate::file::cost_is;
 use crate::file::number_is;
 use crate::file::past_bytes;
@@ -8,7 +9,6 @@ use crate::state::State;
 use crate::state_hash;
 use crate::tally::Verdict;
 use crate::tally::judged;
-use instance::byte_at;
 use messages::Answer;
 use messages::Report;
 ghost use Prim.Native.Nat.{_≤_};
@@ -17,11 +17,6 @@ ghost use Prim.Native.Nat.{_≤_};
 pub struct Outcome {
     pub state: State,
     pub verdict: Verdict,
-}
-
-struct Opened {
-    state: State,
-    refusal: u8,
 }
 
 struct Ran {
@@ -44,69 +39,30 @@ pub fn state_agrees(file: &[u8], at: usize, count: u8, state: State) -> bool {
         && number_is(file, hashes, 8, state_hash::of(state))
 }
 
-fn open_lent(
+// Opens, or runs a list of records.
+fn moved(
+    opens: bool,
     sheet: &[u8],
+    records: &[u8],
     nodes: &mut [i64],
     labels: &mut [i64],
     edges: &mut [i64],
     kept: &mut [u8],
-    n: usize,
-    l: usize,
-    e: usize,
-    k: usize,
-) -> u8 {
-    let n = at_most(n, nodes.len());
-    let l = at_most(l, labels.len());
-    let e = at_most(e, edges.len());
-    let k = at_most(k, kept.len());
-    messages::open(
-        sheet,
-        &mut nodes[..n],
-        &mut labels[..l],
-        &mut edges[..e],
-        &mut kept[..k],
-    )
-}
-
-fn make_open(sheet: &[u8], mut state: State) -> Opened {
-    let mut nodes = state.nodes;
-    let mut labels = state.labels;
-    let mut edges = state.edges;
-    let mut kept = state.kept;
-    let n = state.node_count;
-    let l = state.label_count;
-    let e = state.edge_count;
-    let k = state.kept_count;
-    let refusal = open_lent(
-        sheet,
-        &mut nodes,
-        &mut labels,
-        &mut edges,
-        &mut kept,
-        n,
-        l,
-        e,
-        k,
-    );
-    state.nodes = nodes;
-    state.labels = labels;
-    state.edges = edges;
-    state.kept = kept;
-    Opened { state, refusal }
-}
-
-// Open: the refusal.
-pub fn open(file: &[u8], at: usize, sheet: &[u8], before: State) -> Outcome {
-    let opened = make_open(sheet, before);
-    let state = opened.state;
-    let agrees = number_is(file, at, 1, opened.refusal as u64) && state_agrees(file, at, 1, state);
-    Outcome {
-        state,
-        verdict: judged(agrees),
+) -> Answer {
+    if opens {
+        let refusal = messages::open(sheet, nodes, labels, edges, kept);
+        return Answer {
+            done: 0,
+            stuck: 0,
+            refusal,
+        };
     }
+    messages::run(sheet, records, nodes, labels, edges, kept)
 }
 
-fn run_lent(
+// The same on as much of each buffer as is lent.
+fn moved_lent(
+    opens: bool,
     sheet: &[u8],
     records: &[u8],
     nodes: &mut [i64],
@@ -122,7 +78,8 @@ fn run_lent(
     let l = at_most(l, labels.len());
     let e = at_most(e, edges.len());
     let k = at_most(k, kept.len());
-    messages::run(
+    moved(
+        opens,
         sheet,
         records,
         &mut nodes[..n],
@@ -132,7 +89,8 @@ fn run_lent(
     )
 }
 
-fn make_run(sheet: &[u8], records: &[u8], mut state: State) -> Ran {
+// The same on the state.
+fn make_move(opens: bool, sheet: &[u8], records: &[u8], mut state: State) -> Ran {
     let mut nodes = state.nodes;
     let mut labels = state.labels;
     let mut edges = state.edges;
@@ -141,7 +99,8 @@ fn make_run(sheet: &[u8], records: &[u8], mut state: State) -> Ran {
     let l = state.label_count;
     let e = state.edge_count;
     let k = state.kept_count;
-    let answer = run_lent(
+    let answer = moved_lent(
+        opens,
         sheet,
         records,
         &mut nodes,
@@ -158,6 +117,19 @@ fn make_run(sheet: &[u8], records: &[u8], mut state: State) -> Ran {
     state.edges = edges;
     state.kept = kept;
     Ran { state, answer }
+}
+
+// Open: the refusal.
+pub fn open(file: &[u8], at: usize, sheet: &[u8], before: State) -> Outcome {
+    let none = [0u8; 1];
+    let opened = make_move(true, sheet, &none[..0], before);
+    let state = opened.state;
+    let answer = opened.answer;
+    let agrees = number_is(file, at, 1, answer.refusal as u64) && state_agrees(file, at, 1, state);
+    Outcome {
+        state,
+        verdict: judged(agrees),
+    }
 }
 
 fn run_agrees(file: &[u8], at: usize, answer: Answer, state: State) -> bool {
@@ -178,7 +150,7 @@ pub fn run(file: &[u8], at: usize, sheet: &[u8], before: State) -> Outcome {
             verdict: Verdict::Differed,
         };
     }
-    let ran = make_run(sheet, &file[from..to], before);
+    let ran = make_move(false, sheet, &file[from..to], before);
     let state = ran.state;
     let answer = ran.answer;
     Outcome {

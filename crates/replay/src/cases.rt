@@ -1,13 +1,13 @@
 // Going through the file: the cases, and the calls of each.
 use crate::file::after;
+use crate::file::byte_at;
 use crate::file::past_bytes;
+use crate::file::word_at;
 use crate::ops;
 use crate::state;
 use crate::state::State;
 use crate::tally;
 use crate::tally::Tally;
-use instance::byte_at;
-use instance::word_at;
 
 // What a call left behind.
 struct Step {
@@ -48,7 +48,8 @@ fn replay_cases(file: &[u8], first: usize, cases: u32) -> Tally {
 
 // One case: its sheet, then the prior and the lengths of the four buffers, then the number of its calls. It counts
 // as gone through only where the file holds all of them.
-fn replay_case(file: &[u8], at: usize, tally: Tally) -> Progress {
+fn replay_case(file: &[u8], at: usize, before: Tally) -> Progress {
+    let tally = tally::case_begun(before);
     let from = after(file, at, 4);
     let to = past_bytes(file, at);
     if file.len() < to {

@@ -1,10 +1,29 @@
 // Places in the file and the numbers that stand there. A place is always one that `after` answered: at most the
 // file's length, or `LOST`. Reading past the end gives 0, so no place has to be tested before it is read.
-use instance::byte_at;
-use instance::word_at;
+ghost use Prim.Native.Nat.{_<_};
 
 // The place of what the file does not hold.
 pub const LOST: usize = usize::MAX;
+
+// A byte; past the end it is 0.
+pub fn byte_at(file: &[u8], at: usize) -> u8 {
+    if at < file.len() { file[at] } else { 0 }
+}
+
+// A byte as 32 bits.
+fn bits(x: u8) -> u32
+    ensures { λ r. ⌜ r < 256 ⌝ }
+{
+    x as u32
+}
+
+// Four bytes, the lowest first.
+pub fn word_at(file: &[u8], at: usize) -> u32 {
+    bits(byte_at(file, at))
+        + 0x100 * bits(byte_at(file, after(file, at, 1)))
+        + 0x1_0000 * bits(byte_at(file, after(file, at, 2)))
+        + 0x100_0000 * bits(byte_at(file, after(file, at, 3)))
+}
 
 // The place `by` bytes further on.
 pub fn after(file: &[u8], at: usize, by: usize) -> usize {

@@ -1,5 +1,5 @@
-// Replays the calls of an outside vector file against this repository's crates, and counts for each kind of call
-// how many were compared, how many of those differed, and how many were skipped.
+// Replays the calls of an outside vector file against this repository's crates, counts for each kind of call how many
+// were compared, how many of those differed and how many were skipped, and names the first case and call that differ.
 use libc::STDOUT_FILENO;
 
 mod calls;
@@ -26,6 +26,19 @@ fn print_op(name: &[u8], tally: Tally, op: u8) {
     io::write_all(STDOUT_FILENO, b"\n");
 }
 
+// The first case that differs, and the call in it, both counted from 1.
+fn print_first(tally: Tally) {
+    if tally.first_case == 0 {
+        io::write_all(STDOUT_FILENO, b"no case differs\n");
+        return;
+    }
+    io::write_all(STDOUT_FILENO, b"case ");
+    io::print_decimal(STDOUT_FILENO, tally.first_case);
+    io::write_all(STDOUT_FILENO, b" call ");
+    io::print_decimal(STDOUT_FILENO, tally.first_call);
+    io::write_all(STDOUT_FILENO, b" differs\n");
+}
+
 fn print_all(tally: Tally) {
     print_op(b"open", tally, ops::OPEN);
     print_op(b"run", tally, ops::RUN);
@@ -36,12 +49,13 @@ fn print_all(tally: Tally) {
     io::write_all(STDOUT_FILENO, b"cases ");
     io::print_decimal(STDOUT_FILENO, tally.cases);
     io::write_all(STDOUT_FILENO, b"\n");
+    print_first(tally);
 }
 
 fn main() {
-    let fd = os::open_read(b"base-small.vec");
+    let fd = os::open_read(b"small.vec");
     if fd < 0 {
-        os::fail(b"base-small.vec");
+        os::fail(b"small.vec");
         return;
     }
     let mut buffer = io::large_buffer();

@@ -8,17 +8,17 @@ use crate::calls::Outcome;
 use crate::calls::state_agrees;
 use crate::file::LOST;
 use crate::file::after;
+use crate::file::byte_at;
 use crate::file::number_is;
 use crate::file::past_answers;
 use crate::file::past_bytes;
+use crate::file::word_at;
 use crate::hash;
 use crate::state;
 use crate::state::State;
 use crate::tally::Verdict;
 use crate::tally::judged;
 use instance::Layout;
-use instance::byte_at;
-use instance::word_at;
 
 pub const OPEN: u8 = 1;
 

@@ -1,13 +1,13 @@
 // The four buffers of a case: for each an array with room for more than the vectors lend, and the length that is lent.
 use crate::file::after;
+use crate::file::byte_at;
 use crate::file::number_at;
 use crate::file::signed;
-use instance::byte_at;
-use instance::word_at;
+use crate::file::word_at;
 ghost use Prim.Native.Nat.{_<_};
 
 // The room for costs, and for kept bytes.
-const COSTS: usize = 128;
+const COSTS: usize = 192;
 
 const KEPT: usize = 64;
 
@@ -19,9 +19,9 @@ const LABELS: u8 = 1;
 const EDGES: u8 = 2;
 
 pub struct State {
-    pub nodes: [i64; 128],
-    pub labels: [i64; 128],
-    pub edges: [i64; 128],
+    pub nodes: [i64; 192],
+    pub labels: [i64; 192],
+    pub edges: [i64; 192],
     pub kept: [u8; 64],
     pub node_count: usize,
     pub label_count: usize,
@@ -33,13 +33,13 @@ pub struct State {
 
 // What a buffer of costs has at a place before the first call, where the prior is 1.
 fn prior_cost(i: usize) -> i64
-    requires { ⌜ i < 128 ⌝ }
+    requires { ⌜ i < 192 ⌝ }
 {
     signed(std::num::wrapping_sub_u64(i as u64 * 7919, 12345))
 }
 
-fn prior_costs(count: usize) -> [i64; 128] {
-    let mut cells: [i64; 128] = [0; 128];
+fn prior_costs(count: usize) -> [i64; 192] {
+    let mut cells: [i64; 192] = [0; 192];
     let mut i = 0;
     while i < count && i < COSTS {
         cells[i] = prior_cost(i);
@@ -68,7 +68,7 @@ pub fn begun(file: &[u8], at: usize) -> State {
         && label_count <= COSTS
         && edge_count <= COSTS
         && kept_count <= KEPT;
-    let zeros: [i64; 128] = [0; 128];
+    let zeros: [i64; 192] = [0; 192];
     let bytes: [u8; 64] = [0; 64];
     let blank = State {
         nodes: zeros,
@@ -100,7 +100,7 @@ fn with_prior(mut state: State) -> State {
 }
 
 // The costs with 0 from a place on.
-fn costs_cleared(mut cells: [i64; 128], from: usize) -> [i64; 128] {
+fn costs_cleared(mut cells: [i64; 192], from: usize) -> [i64; 192] {
     let mut i = from;
     while i < COSTS {
         cells[i] = 0;

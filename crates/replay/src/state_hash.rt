@@ -15,13 +15,13 @@ fn add_cost(hash: u64, cost: i64) -> u64
     }
 }
 
-fn add_costs(hash: u64, costs: &[i64; 128], count: usize) -> u64
+fn add_costs(hash: u64, costs: &[i64; 192], count: usize) -> u64
     requires { ⌜ hash < 4294967291 ⌝ }
     ensures { λ r. ⌜ r < 4294967291 ⌝ }
 {
     let mut h = hash;
     let mut i = 0;
-    while i < count && i < 128 {
+    while i < count && i < 192 {
         h = add_cost(h, costs[i]);
         i += 1;
     }

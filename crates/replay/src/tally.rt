@@ -20,6 +20,12 @@ pub struct Tally {
     pub skipped: [u64; 8],
     // the cases gone through to their end
     pub cases: u64,
+    // the case and its call that are being gone through, counted from 1
+    pub case: u64,
+    pub call: u64,
+    // the first ones that differ, 0 for none
+    pub first_case: u64,
+    pub first_call: u64,
 }
 
 // What is counted for one op.
@@ -35,6 +41,10 @@ pub fn empty() -> Tally {
         differed: [0; 8],
         skipped: [0; 8],
         cases: 0,
+        case: 0,
+        call: 0,
+        first_case: 0,
+        first_call: 0,
     }
 }
 
@@ -54,8 +64,31 @@ fn edited(mut tally: Tally, verdict: Verdict) -> Tally {
     tally
 }
 
+// The next case.
+pub fn case_begun(mut tally: Tally) -> Tally {
+    tally.case = more(tally.case);
+    tally.call = 0;
+    tally
+}
+
+// The next call, and whether it is the first that differs.
+fn called(mut tally: Tally, verdict: Verdict) -> Tally {
+    tally.call = more(tally.call);
+    match verdict {
+        Verdict::Differed => {
+            if tally.first_case == 0 {
+                tally.first_case = tally.case;
+                tally.first_call = tally.call;
+            }
+        }
+        _ => {}
+    }
+    tally
+}
+
 // Counts one call.
-pub fn counted(mut tally: Tally, op: u8, verdict: Verdict) -> Tally {
+pub fn counted(before: Tally, op: u8, verdict: Verdict) -> Tally {
+    let mut tally = called(before, verdict);
     let k = op as usize;
     if 8 <= k {
         return edited(tally, verdict);

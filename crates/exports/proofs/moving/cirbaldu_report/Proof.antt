@@ -1,16 +1,35 @@
 -- `cirbaldu_report` meets its contract.
-use mathlib.Core.Path.{sym, ap, _∙_}
+use mathlib.Core.Path.{refl, sym, ap, _∙_}
 use mathlib.Core.List.{[], _∷_}
 use lib.IntN.{ℤ, pos}
 use denote.Ref.{now}
 use Rattle.integers.proofs.Bits.{same}
+use Rattle.instance.proofs.LaidOut.{refusal-is}
+use Rattle.rules.specs.Costs.{Buffers}
+use Rattle.messages.specs.Lent.{lent}
 use Rattle.messages.specs.Answers.{reportedAs}
-use Rattle.exports.specs.Stored.{storedIn}
-use Rattle.exports.specs.Moving.{numberOf, valuesOf}
-use Rattle.exports.proofs.AnswerLaws.{reported-by}
+use Rattle.exports.specs.Stored.{unlent}
+use Rattle.exports.specs.Moving.{numberOf, valuesIn}
+use Rattle.exports.proofs.AnswerLaws.{reported-by, reported-ill}
 use borrow.Author.Needs.{needs}
 use Rattle.exports.proofs.moving.cirbaldu_report.Statement.{statement}
 use Rattle.exports.proofs.moving.cirbaldu_report.Tie as tie
+
+-- the four buffers as they are lent
+abbrev buffers : tie.Start → Buffers
+buffers q = lent (now (q .args .nodes)) (now (q .args .labels)) (now (q .args .edges)) (now (q .args .incumbent))
+
+read-requires : tie.Need-read-requires
+read-requires c κs = search needs
+
+refuse-length-requires : tie.Need-refuse-length-requires
+refuse-length-requires c κs = search needs
+
+returns : tie.Need-returns
+returns c =
+    let r = c .before in
+    let q = r .before .before .before .before in
+    reported-ill (now (q .args .sheet)) (buffers q) (now (q .args .values)) (r .before .if1 .taken) (c .refuse-length .ensures ∙ ap unlent (refusal-is (now (q .args .sheet)) (r .read .ensures)))
 
 report-requires : tie.Need-report-requires
 report-requires c κs = search needs
@@ -18,73 +37,71 @@ report-requires c κs = search needs
 enum-known-told : tie.Need-enum-known-told
 enum-known-told c = search needs
 
-store-costs-requires : tie.Need-store-costs-requires
-store-costs-requires c κs = search needs
-
 enum-known-told-2 : tie.Need-enum-known-told-2
 enum-known-told-2 c = search needs
 
-store-costs-requires-2 : tie.Need-store-costs-requires-2
-store-costs-requires-2 c κs = search needs
+store-costs-requires : tie.Need-store-costs-requires
+store-costs-requires c κs = c .before .before .before .before .before .if1 .left
 
 enum-known-told-3 : tie.Need-enum-known-told-3
 enum-known-told-3 c = search needs
 
-store-costs-requires-3 : tie.Need-store-costs-requires-3
-store-costs-requires-3 c κs = search needs
+store-costs-requires-2 : tie.Need-store-costs-requires-2
+store-costs-requires-2 c κs = c .before .before .before .before .before .if1 .left
+
+returns-2 : tie.Need-returns-2
+unfolding numberOf valuesIn
+returns-2 c =
+    let p = c .before .before .before in
+    let q = p .before .before .before .before in
+    reported-by (now (q .args .sheet)) (buffers q) (now (q .args .values)) _ (p .before .if1 .left) (sym (ap reportedAs (c .before .told .given .1)) ∙ p .report .ensures) refl
 
 same-length : tie.Need-same-length
 same-length c = search needs
 
-returns : tie.Need-returns
-unfolding numberOf valuesOf
-returns c =
-    let q = c .before .before .before .before .before .before .before .before .before in
-    let e = sym (ap reportedAs (c .before .before .before .before .told .given .1)) ∙ c .before .before .before .before .before .before .report .ensures in
-    reported-by _ (now (q .args .values)) e (c .before .store-costs .ensures)
+returns-3 : tie.Need-returns-3
+unfolding numberOf valuesIn
+returns-3 c =
+    let p = c .before .before .before .before .before .before in
+    let q = p .before .before .before .before in
+    let t = c .before .before .before .before .told2 in
+    let k = c .before .before .before .known-told2 .given in
+    let n = same (t .given .0 .0) (k .0 .1) in
+    reported-by (now (q .args .sheet)) (buffers q) (now (q .args .values)) _ (p .before .if1 .left) (sym (ap reportedAs (t .given .1)) ∙ p .report .ensures)
+    (c .before .store-costs .ensures ∙ ap (λ (x : ℤ). pos 0 ∷ x ∷ pos 0 ∷ pos 0 ∷ []) n)
 
 same-length-2 : tie.Need-same-length-2
 same-length-2 c = search needs
 
-returns-2 : tie.Need-returns-2
-unfolding numberOf valuesOf
-returns-2 c =
-    let q = c .before .before .before .before .before .before .before .before .before in
-    let e = sym (ap reportedAs (c .before .before .before .before .told2 .given .1)) ∙ c .before .before .before .before .before .before .report .ensures in
-    let z = c .before .before .before .before .told2 .given .0 in
-    let k = c .before .before .before .known-told2 .given in
-    let n = same (z .0) (k .0 .1) in
-    reported-by _ (now (q .args .values)) e (c .before .store-costs2 .ensures ∙ ap (λ (x : ℤ). storedIn 4 (pos 0 ∷ x ∷ pos 0 ∷ pos 0 ∷ []) (now (q .args .values))) n)
-
-same-length-3 : tie.Need-same-length-3
-same-length-3 c = search needs
-
-returns-3 : tie.Need-returns-3
-unfolding numberOf valuesOf
-returns-3 c =
-    let q = c .before .before .before .before .before .before .before .before .before in
-    let e = sym (ap reportedAs (c .before .before .before .before .told3 .given .1)) ∙ c .before .before .before .before .before .before .report .ensures in
-    let z = c .before .before .before .before .told3 .given .0 in
+returns-4 : tie.Need-returns-4
+unfolding numberOf valuesIn
+returns-4 c =
+    let p = c .before .before .before .before .before .before in
+    let q = p .before .before .before .before in
+    let t = c .before .before .before .before .told3 in
+    let z = t .given .0 in
     let k = c .before .before .before .known-told3 .given in
     let b = same (z .0) (k .0 .1) in
-    let p = same (z .1 .0) (k .1 .0 .1) in
+    let d = same (z .1 .0) (k .1 .0 .1) in
     let g = same (z .1 .1 .0) (k .1 .1 .0 .1) in
-    reported-by _ (now (q .args .values)) e (c .before .store-costs3 .ensures ∙ (λ j. storedIn 4 (pos 1 ∷ b j ∷ p j ∷ g j ∷ []) (now (q .args .values))))
+    reported-by (now (q .args .sheet)) (buffers q) (now (q .args .values)) _ (p .before .if1 .left) (sym (ap reportedAs (t .given .1)) ∙ p .report .ensures)
+    (c .before .store-costs2 .ensures ∙ (λ j. pos 1 ∷ b j ∷ d j ∷ g j ∷ []))
 
 pub cirbaldu-report-spec : {M : Type 1} → statement M
 cirbaldu-report-spec =
     tie.close
     (tie.spec
+    read-requires
+    refuse-length-requires
+    returns
     report-requires
     enum-known-told
-    store-costs-requires
     enum-known-told-2
-    store-costs-requires-2
+    store-costs-requires
     enum-known-told-3
-    store-costs-requires-3
-    same-length
-    returns
-    same-length-2
+    store-costs-requires-2
     returns-2
-    same-length-3
-    returns-3)
+    same-length
+    returns-3
+    same-length-2
+    returns-4)

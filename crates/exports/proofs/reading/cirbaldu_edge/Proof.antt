@@ -1,88 +1,83 @@
--- `cirbaldu_edge` meets its contract: the refusal of the sheet, the edge that is there, and the one that is not.
-use mathlib.Core.Path.{sym, _∙_}
-use native.Mathlib.Omega.{arith}
+-- `cirbaldu_edge` meets its contract: a span of another length, the edge that is there, and the one that is refused.
+use mathlib.Core.Path.{_≡_, sym, ap, _∙_}
+use mathlib.Core.List.{List}
 use denote.Ref.{now}
-use Rattle.instance.specs.Passes.{EdgeAsked}
-use Rattle.instance.proofs.LaidOut.{refusal-is, laid-out}
-use Rattle.instance.proofs.Shown.{edge-unread, edge-past, unrefused}
-use Rattle.exports.proofs.ShowLaws.{shown-by, hidden-by}
+use Rattle.instance.specs.Layout.{EdgeAsked, edgeRefusalOf}
+use Rattle.instance.proofs.Shown.{edge-in, asked-by, unrefused}
+use Rattle.exports.specs.Stored.{unlent}
+use Rattle.exports.proofs.ShowLaws.{span-hidden, shown-by, shown-ill}
 use borrow.Author.Needs.{needs}
 use Rattle.exports.proofs.reading.cirbaldu_edge.Statement.{statement}
 use Rattle.exports.proofs.reading.cirbaldu_edge.Tie as tie
 
--- past both tests the edge is there
-module _ (p : tie.Then2) where
+-- the edge is judged
+module _ (p : tie.After-edge-refusal-in) where
   abbrev start : tie.Start
-  start = p .before .before .before .before .before .before .before
+  start = p .before .before .before .before
 
-  asked : EdgeAsked (now (start .args .sheet)) (p .before .before .before .before .read .result) (start .args .edge)
-  asked = record { answer = p .before .before .before .before .read .ensures; sound = p .before .before .if1 .left; there = p .if2 .taken }
+  number : p .edge-refusal-in .result ≡ edgeRefusalOf (now (start .args .sheet)) (start .args .edge)
+  number = p .edge-refusal-in .ensures ∙ edge-in (now (start .args .sheet)) (start .args .edge) (p .before .read .ensures)
+
+-- it is there
+asked : (t : tie.Then2) → let p = t .before .before in EdgeAsked (now (start p .args .sheet)) (p .before .read .result) (start p .args .edge)
+asked t = let p = t .before .before in asked-by (now (start p .args .sheet)) (p .before .read .ensures) (p .edge-refusal-in .ensures) (t .if2 .taken)
 
 read-requires : tie.Need-read-requires
 read-requires c κs = search needs
 
-slice-aggregate-store : tie.Need-slice-aggregate-store
-slice-aggregate-store c = search needs
+edge-refusal-in-requires : tie.Need-edge-refusal-in-requires
+edge-refusal-in-requires c κs = search needs
 
-store-requires : tie.Need-store-requires
-store-requires c κs = search needs
+refuse-length-requires : tie.Need-refuse-length-requires
+refuse-length-requires c κs = search needs
+
+returns : tie.Need-returns
+returns c =
+    let p = c .before .before in
+    let a = start p .args in
+    shown-ill (now (a .sheet)) (a .edge) (now (a .span)) (c .before .if1 .taken) (c .refuse-length .ensures ∙ ap unlent (number p))
+
+store-span-requires : tie.Need-store-span-requires
+store-span-requires c κs = (asked (c .before), c .before .before .if1 .left)
 
 same-length : tie.Need-same-length
 same-length c = search needs
 
-returns : tie.Need-returns
-returns c =
-    let q = c .before .before .before .before .before .before .before .before .before .before in
-    let s = now (q .args .sheet) in
-    let r = refusal-is s (c .before .before .before .before .before .before .before .read .ensures) in
-    let h = c .before .before .before .before .before .if1 .taken in
-    hidden-by s (q .args .edge) (now (q .args .span)) (r ∙ sym (edge-unread s (q .args .edge) (λ e. h (r ∙ e)))) h (c .before .before .store .ensures)
+returns-2 : tie.Need-returns-2
+returns-2 c =
+    let t = c .before .before .before .before in
+    let a = start (t .before .before) .args in
+    shown-by (now (a .sheet)) (a .edge) (now (a .span)) (t .before .if1 .left) (sym (unrefused (now (a .sheet)) (asked t))) (c .before .before .store-span .ensures)
 
-store-span-requires : tie.Need-store-span-requires
-store-span-requires c κs = search needs
+slice-aggregate-copy : tie.Need-slice-aggregate-copy
+slice-aggregate-copy c = search needs
 
-slice-aggregate-store-2 : tie.Need-slice-aggregate-store-2
-slice-aggregate-store-2 c = search needs
-
-store-requires-2 : tie.Need-store-requires-2
-store-requires-2 c κs = search needs
+copy-requires : tie.Need-copy-requires
+copy-requires c κs = c .before .before .before .if1 .left
 
 same-length-2 : tie.Need-same-length-2
 same-length-2 c = search needs
 
-returns-2 : tie.Need-returns-2
-returns-2 c =
-    let p = c .before .before .before .before in
-    let q = start p in
-    let s = now (q .args .sheet) in
-    shown-by s (q .args .edge) (now (q .args .span)) (sym (unrefused s (asked p))) (c .before .before .store-span .ensures)
-
-same-length-3 : tie.Need-same-length-3
-same-length-3 c = search needs
-
 returns-3 : tie.Need-returns-3
 returns-3 c =
-    let q = c .before .before .before .before .before .before .before .before .before .before .before .before in
-    let s = now (q .args .sheet) in
-    let e = c .before .before .before .before .before .before .before .if1 .left in
-    let f = c .before .before .before .before .before .before .before .before .before .read .ensures in
-    let d = laid-out s f e in
-    let z = edge-past s (q .args .edge) (sym (refusal-is s f) ∙ e) (omega (arith, d .edges, c .before .before .before .before .before .if2 .left)) in
-    hidden-by s (q .args .edge) (now (q .args .span)) (sym z) (λ n. omega arith) (c .before .before .store2 .ensures)
+    let e = c .before .before .before .before .before in
+    let p = e .before .before in
+    let a = start p .args in
+    shown-by (now (a .sheet)) (a .edge) (now (a .span)) (e .before .if1 .left) (number p)
+    (c .before .before .copy .ensures ∙ span-hidden (now (a .sheet)) (a .edge) (λ z. e .if2 .left (number p ∙ z)))
 
 pub cirbaldu-edge-spec : {M : Type 1} → statement M
 cirbaldu-edge-spec =
     tie.close
     (tie.spec
     read-requires
-    slice-aggregate-store
-    store-requires
-    same-length
+    edge-refusal-in-requires
+    refuse-length-requires
     returns
     store-span-requires
-    slice-aggregate-store-2
-    store-requires-2
-    same-length-2
+    same-length
     returns-2
-    same-length-3
+    slice-aggregate-copy
+    copy-requires
+    same-length-2
     returns-3)

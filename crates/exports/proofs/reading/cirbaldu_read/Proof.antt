@@ -8,9 +8,12 @@ use lib.Seq.{length-take-le}
 use denote.Ref.{now}
 use Rattle.instance.specs.declared.reading.Layout.{Layout}
 use Rattle.instance.specs.Layout.{layoutOf}
+use Rattle.instance.proofs.LaidOut.{refusal-is}
+use Rattle.exports.specs.Stored.{unlent}
 use Rattle.exports.specs.Reading.{numbersOf}
 use Rattle.exports.proofs.ReadLaws.{starts-long, tables-long, counts-long, numbers-by}
-use Rattle.exports.proofs.StoreLaws.{stored, unstored, second-long, third-long, all-put}
+use Rattle.exports.proofs.StoreLaws.{second-long, third-long, all-put}
+use Rattle.exports.proofs.AnswerLaws.{read-by, read-ill}
 use borrow.Author.Needs.{needs}
 use Rattle.exports.proofs.reading.cirbaldu_read.Statement.{statement}
 use Rattle.exports.proofs.reading.cirbaldu_read.Tie as tie
@@ -30,16 +33,16 @@ module _ (p : tie.After-copy-counts) where
   answer = now (start .args .answer)
 
   abbrev layout : Layout
-  layout = p .before .before .before .before .read .result
+  layout = p .before .before .before .before .before .read .result
 
   abbrev counts : List ℕ
   counts = p .copy-counts .last .1 .0
 
   told : layout ≡ layoutOf sheet
-  told = p .before .before .before .before .read .ensures
+  told = p .before .before .before .before .before .read .ensures
 
   long : length answer ≡ 326
-  long = p .before .before .before .before .before .if1 .taken
+  long = p .before .before .before .before .if1 .left
 
   six : length counts ≡ 6
   six = ap length (p .copy-counts .ensures) ∙ counts-long layout
@@ -64,14 +67,23 @@ module _ (m : tie.After-copy) where
 read-requires : tie.Need-read-requires
 read-requires c κs = search needs
 
+refuse-length-requires : tie.Need-refuse-length-requires
+refuse-length-requires c κs = search needs
+
+returns : tie.Need-returns
+returns c =
+    let r = c .before .before in
+    let q = r .before .before .before in
+    read-ill (now (q .args .sheet)) (now (q .args .answer)) (c .before .if1 .taken) (c .refuse-length .ensures ∙ ap unlent (refusal-is (now (q .args .sheet)) (r .read .ensures)))
+
 slice-relend-prefix-copy-counts : tie.Need-slice-relend-prefix-copy-counts
 slice-relend-prefix-copy-counts c = search needs
 
 slice-aggregate-copy-counts : tie.Need-slice-aggregate-copy-counts
-slice-aggregate-copy-counts c = sym (six-taken (c .before .before .before .before .before .before .before .args .answer .now) (c .before .before .before .before .if1 .taken))
+slice-aggregate-copy-counts c = sym (six-taken (c .before .before .before .before .before .before .before .args .answer .now) (c .before .before .before .if1 .left))
 
 copy-counts-requires : tie.Need-copy-counts-requires
-copy-counts-requires c κs = six-taken (now (c .before .before .before .before .before .before .before .args .answer)) (c .before .before .before .before .if1 .taken)
+copy-counts-requires c κs = six-taken (now (c .before .before .before .before .before .before .before .args .answer)) (c .before .before .before .if1 .left)
 
 slice-aggregate-copy : tie.Need-slice-aggregate-copy
 slice-aggregate-copy c = search needs
@@ -106,24 +118,22 @@ copy-requires-2 c κs = let p = c .before .before .before .before in third-long 
 same-length : tie.Need-same-length
 same-length c = search needs
 
-returns : tie.Need-returns
-returns c =
-    let m = c .before .before .before .before .before .before .before in
-    let p = filled m in
-    all-put (answer p) (counts p) (long p) (six p) (starts m) (more m) (c .before .before .copy2 .last .1 .0)
-    ∙ numbers-by (layout p) (p .copy-counts .ensures) (m .copy .ensures) (c .before .before .copy2 .ensures)
-    ∙ ap numbersOf (told p) ∙ stored 326 (numbersOf (layoutOf (sheet p))) (answer p) (long p)
-
 returns-2 : tie.Need-returns-2
 returns-2 c =
-    let q = c .before .before .before in
-    unstored 326 (numbersOf (layoutOf (now (q .args .sheet)))) (now (q .args .answer)) (c .if1 .left)
+    let m = c .before .before .before .before .before .before .before in
+    let p = filled m in
+    read-by (sheet p) (answer p) (long p) (refusal-is (sheet p) (told p))
+    (all-put (answer p) (counts p) (long p) (six p) (starts m) (more m) (c .before .before .copy2 .last .1 .0)
+    ∙ numbers-by (layout p) (p .copy-counts .ensures) (m .copy .ensures) (c .before .before .copy2 .ensures)
+    ∙ ap numbersOf (told p))
 
 pub cirbaldu-read-spec : {M : Type 1} → statement M
 cirbaldu-read-spec =
     tie.close
     (tie.spec
     read-requires
+    refuse-length-requires
+    returns
     slice-relend-prefix-copy-counts
     slice-aggregate-copy-counts
     copy-counts-requires
@@ -138,5 +148,4 @@ cirbaldu-read-spec =
     part-copy-end-2
     copy-requires-2
     same-length
-    returns
     returns-2)

@@ -23,7 +23,7 @@ returns : tie.Need-returns
 unfolding countsOf
 returns c =
     let l = c .before .before .before .before .before .before .before .args .layout in
-    c .before .before .copy .ensures ∙ ap (λ (r : ℕ). r ∷ l .nodes ∷ l .labels ∷ l .edges ∷ l .positions ∷ l .cells ∷ []) (c .before .before .before .before .before .wide .ensures)
+    c .before .before .copy .ensures ∙ ap (λ (r : ℕ). r ∷ l .nodes ∷ l .labels ∷ l .edges ∷ l .positions ∷ l .cells ∷ []) (c .before .before .before .before .before .wide .ensures .0)
 
 pub copy-counts-spec : {M : Type 1} → statement M
 copy-counts-spec =

@@ -5,14 +5,13 @@ use Prim.Native.Nat.{ℕ}
 use native.Mathlib.Omega.{arith}
 use denote.Ref.{now}
 use Rattle.instance.proofs.LaidOut.{LaidOut}
-use Rattle.exports.specs.Stored.{storedIn}
 use Rattle.exports.proofs.ShowLaws.{Sized, known, sized, span-by}
 use borrow.Author.Needs.{needs}
 use Rattle.exports.proofs.reading.store_span.Statement.{statement}
 use Rattle.exports.proofs.reading.store_span.Tie as tie
 
 few : (q : tie.Start) → LaidOut (now (q .args .sheet)) (q .args .layout)
-few q = known (now (q .args .sheet)) (q .pre)
+few q = known (now (q .args .sheet)) (q .pre .0)
 
 -- where the edge's table begins and where it ends
 module _ (p : tie.After-table-at2) where
@@ -20,7 +19,7 @@ module _ (p : tie.After-table-at2) where
   start = p .before .before .before .before .before .before .before
 
   ends : Sized (now (start .args .sheet)) (start .args .edge) (p .before .table-at .result) (p .table-at2 .result)
-  ends = sized (now (start .args .sheet)) (start .pre) (p .before .table-at .ensures) (p .table-at2 .ensures)
+  ends = sized (now (start .args .sheet)) (start .pre .0) (p .before .table-at .ensures) (p .table-at2 .ensures)
 
 mul-prices : tie.Need-mul-prices
 mul-prices c = omega (arith, few (c .before .before .before))
@@ -55,11 +54,11 @@ sub-t10 c = omega (arith, ends c)
 mul-t12 : tie.Need-mul-t12
 mul-t12 c = omega (arith, ends c)
 
-slice-aggregate-store : tie.Need-slice-aggregate-store
-slice-aggregate-store c = search needs
+slice-aggregate-copy : tie.Need-slice-aggregate-copy
+slice-aggregate-copy c = search needs
 
-store-requires : tie.Need-store-requires
-store-requires c κs = search needs
+copy-requires : tie.Need-copy-requires
+copy-requires c κs = search needs
 
 same-length : tie.Need-same-length
 same-length c = search needs
@@ -68,8 +67,8 @@ returns : tie.Need-returns
 returns c =
     let p = c .before .before .before .before .before in
     let q = start p in
-    c .before .before .store .ensures
-    ∙ ap (λ (v : List ℕ). storedIn 2 v (now (q .args .span))) (span-by (now (q .args .sheet)) (q .pre) (p .before .table-at .ensures) (p .table-at2 .ensures))
+    c .before .before .copy .ensures
+    ∙ (span-by (now (q .args .sheet)) (q .pre .0) (p .before .table-at .ensures) (p .table-at2 .ensures))
 
 pub store-span-spec : {M : Type 1} → statement M
 store-span-spec =
@@ -86,7 +85,7 @@ store-span-spec =
     add-t9
     sub-t10
     mul-t12
-    slice-aggregate-store
-    store-requires
+    slice-aggregate-copy
+    copy-requires
     same-length
     returns)

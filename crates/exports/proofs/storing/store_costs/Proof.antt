@@ -1,9 +1,8 @@
 -- `store_costs` meets its contract.
-use mathlib.Core.Path.{_∙_}
 use mathlib.Core.List.{[], _∷_}
 use denote.Ref.{now}
 use mir.Facts.{toZ-ofZ}
-use Rattle.exports.proofs.StoreLaws.{stored, unstored, all-set}
+use Rattle.exports.proofs.StoreLaws.{all-set}
 use borrow.Author.Needs.{needs}
 use Rattle.exports.proofs.storing.store_costs.Statement.{statement}
 use Rattle.exports.proofs.storing.store_costs.Tie as tie
@@ -25,13 +24,10 @@ same-length c = search needs
 
 returns : tie.Need-returns
 returns c =
-    let a = c .before .args in
-    let f = c .before .fits in
+    let a = c .args in
+    let f = c .fits in
     rw (toZ-ofZ (f .kept), toZ-ofZ (f .bound), toZ-ofZ (f .cost), toZ-ofZ (f .gap))
-    (all-set (a .kept ∷ a .bound ∷ a .cost ∷ a .gap ∷ []) (now (a .lent)) (c .if1 .taken) ∙ stored 4 _ (now (a .lent)) (c .if1 .taken))
-
-returns-2 : tie.Need-returns-2
-returns-2 c = unstored 4 _ (now (c .before .args .lent)) (c .if1 .left)
+    (all-set (a .kept ∷ a .bound ∷ a .cost ∷ a .gap ∷ []) (now (a .lent)) (c .pre))
 
 pub store-costs-spec : {M : Type 1} → statement M
 store-costs-spec =
@@ -42,5 +38,4 @@ store-costs-spec =
     slice-set-from-cost
     slice-set-from-gap
     same-length
-    returns
-    returns-2)
+    returns)

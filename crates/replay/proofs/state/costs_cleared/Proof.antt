@@ -8,7 +8,7 @@ abbrev Inv-loop : tie.InvT-loop
 Inv-loop from cells₀ i₀ cells i = Unit {0}
 
 abbrev μ-loop : tie.MeasureT-loop
-μ-loop from cells₀ i₀ cells i = 128 - i
+μ-loop from cells₀ i₀ cells i = 192 - i
 
 loop-holds : tie.Need-loop-holds Inv-loop μ-loop
 loop-holds c = search needs
