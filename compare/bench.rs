@@ -86,7 +86,7 @@ fn prepare(parts: &Parts) -> Input {
 fn sample<S: Calls>(input: &Input) -> (Sample, Buffers) {
     let sheet = input.sheet.as_slice();
     let mut answer = [0; READING];
-    let read = time(REPEAT, || S::read(black_box(sheet), black_box(&mut answer)));
+    let read = time(REPEAT, || black_box(S::read(black_box(sheet), black_box(&mut answer))));
     let mut lent = input.opened.clone();
     let open = time(REPEAT, || black_box(S::open(black_box(sheet), black_box(&mut lent))));
     let mut values = [0; VALUES];

@@ -39,7 +39,7 @@ impl Buffers {
 
 pub trait Calls {
     const NAME: &'static str;
-    fn read(sheet: &[u8], answer: &mut [u64]);
+    fn read(sheet: &[u8], answer: &mut [u64]) -> u8;
     fn open(sheet: &[u8], lent: &mut Buffers) -> u8;
     fn run(sheet: &[u8], records: &[u8], lent: &mut Buffers, counts: &mut [u64]) -> u8;
     fn report(sheet: &[u8], lent: &Buffers, values: &mut [i64]) -> u8;
@@ -52,15 +52,17 @@ pub struct Twin;
 impl Calls for Twin {
     const NAME: &'static str = "rust";
 
-    fn read(sheet: &[u8], answer: &mut [u64]) {
+    fn read(sheet: &[u8], answer: &mut [u64]) -> u8 {
+        let read = twin::read(sheet);
         if answer.len() != READING {
-            return;
+            return unlent(read);
         }
         answer.fill(0);
-        match twin::read(sheet) {
-            Err(refusal) => answer[0] = refusal as u64,
-            Ok(sheet) => write_reading(&sheet, answer),
+        match &read {
+            Err(refusal) => answer[0] = *refusal as u64,
+            Ok(sheet) => write_reading(sheet, answer),
         }
+        number(read)
     }
 
     fn open(sheet: &[u8], lent: &mut Buffers) -> u8 {
@@ -68,6 +70,7 @@ impl Calls for Twin {
     }
 
     fn run(sheet: &[u8], records: &[u8], lent: &mut Buffers, counts: &mut [u64]) -> u8 {
+        let [done, stuck] = counts else { return unlent(twin::read(sheet)) };
         let outcome = twin::run(
             sheet,
             records,
@@ -76,20 +79,19 @@ impl Calls for Twin {
             &mut lent.edges,
             &mut lent.incumbent,
         );
-        if let [done, stuck] = counts {
-            (*done, *stuck) = (outcome.done, outcome.stuck);
-        }
+        (*done, *stuck) = (outcome.done, outcome.stuck);
         outcome.refusal.map_or(0, |refusal| refusal as u8)
     }
 
     fn report(sheet: &[u8], lent: &Buffers, values: &mut [i64]) -> u8 {
+        if values.len() != VALUES {
+            return unlent(twin::read(sheet));
+        }
         let answer = twin::report(sheet, &lent.nodes, &lent.labels, &lent.edges, &lent.incumbent);
-        if values.len() == VALUES {
-            values.copy_from_slice(&match answer {
-                Err(_) => [0; VALUES],
-                Ok(Report::Bound { bound }) => [0, bound, 0, 0],
-                Ok(Report::Kept { bound, cost, gap }) => [1, bound, cost, gap],
-            });
+        match answer {
+            Err(_) => {}
+            Ok(Report::Bound { bound }) => values.copy_from_slice(&[0, bound, 0, 0]),
+            Ok(Report::Kept { bound, cost, gap }) => values.copy_from_slice(&[1, bound, cost, gap]),
         }
         number(answer)
     }
@@ -100,16 +102,20 @@ impl Calls for Twin {
 
     fn edge(sheet: &[u8], edge: usize, span: &mut [u64]) -> u8 {
         let answer = twin::edge_range(sheet, edge);
-        if let [offset, length] = span {
-            let range = answer.clone().unwrap_or(0..0);
-            (*offset, *length) = (range.start as u64, range.len() as u64);
-        }
+        let [offset, length] = span else { return unlent(answer) };
+        let range = answer.clone().unwrap_or(0..0);
+        (*offset, *length) = (range.start as u64, range.len() as u64);
         number(answer)
     }
 }
 
 fn number<T>(answer: Result<T, twin::Refusal>) -> u8 {
     answer.err().map_or(0, |refusal| refusal as u8)
+}
+
+/// The number of a call that is lent an answer's buffer of another length: what comes before 8, else 8.
+fn unlent<T>(before: Result<T, twin::Refusal>) -> u8 {
+    number(before.and(Err::<(), _>(twin::Refusal::Lent)))
 }
 
 fn write_reading(sheet: &twin::Sheet, answer: &mut [u64]) {

@@ -12,7 +12,7 @@ mod linked {
     use crate::calls::{Buffers, Calls};
 
     extern "C" {
-        fn cirbaldu_read(sheet: *const u8, sheet_len: usize, answer: *mut u64, answer_len: usize);
+        fn cirbaldu_read(sheet: *const u8, sheet_len: usize, answer: *mut u64, answer_len: usize) -> u8;
         fn cirbaldu_open(
             sheet: *const u8,
             sheet_len: usize,
@@ -78,7 +78,7 @@ mod linked {
     impl Calls for Proved {
         const NAME: &'static str = "rattle";
 
-        fn read(sheet: &[u8], answer: &mut [u64]) {
+        fn read(sheet: &[u8], answer: &mut [u64]) -> u8 {
             unsafe { cirbaldu_read(sheet.as_ptr(), sheet.len(), answer.as_mut_ptr(), answer.len()) }
         }
 
@@ -158,7 +158,7 @@ mod stand_in {
     impl Calls for Proved {
         const NAME: &'static str = "stand-in";
 
-        fn read(sheet: &[u8], answer: &mut [u64]) {
+        fn read(sheet: &[u8], answer: &mut [u64]) -> u8 {
             Twin::read(sheet, answer)
         }
 

@@ -113,10 +113,9 @@ impl Case<'_> {
     fn read(&mut self, rng: &mut Rng) -> Result<(), Difference> {
         let length = places(rng, READING);
         let (mut left, mut right) = (vec![77; length], vec![77; length]);
-        Proved::read(self.sheet, &mut left);
-        Twin::read(self.sheet, &mut right);
-        let number = if length == READING { right[0] } else { 0 };
-        self.judge(0, number, left, right)
+        let left_number = Proved::read(self.sheet, &mut left);
+        let number = Twin::read(self.sheet, &mut right);
+        self.judge(0, u64::from(number), (left_number, left), (number, right))
     }
 
     fn open(&mut self) -> Result<(), Difference> {

@@ -178,8 +178,13 @@ fn replay_call<S: Calls>(
         }
         3 => {
             cursor.i64()?;
-            let mut values = [i64::MIN; VALUES];
+            let prior = [i64::MIN; VALUES];
+            let mut values = prior;
             let refusal = S::report(sheet, state, &mut values);
+            // A refused report leaves the values as they were, which the file writes as zeros.
+            if refusal != 0 && values == prior {
+                values = [0; VALUES];
+            }
             Some(([&[i64::from(refusal)], values.as_slice()].concat(), vec![]))
         }
         4 => {
@@ -206,7 +211,8 @@ fn replay_edge<S: Calls>(sheet: &[u8], edge: usize) -> (Vec<i64>, Vec<u8>) {
 
 fn replay_read<S: Calls>(sheet: &[u8]) -> (Vec<i64>, Vec<u8>) {
     let mut answer = [u64::MAX; READING];
-    S::read(sheet, &mut answer);
+    let refusal = S::read(sheet, &mut answer);
+    assert_eq!(u64::from(refusal), answer[0]);
     let (numbers, starts) = answer.split_at(6);
     let output = starts.iter().flat_map(|&start| (start as u32).to_le_bytes()).collect();
     (numbers.iter().map(|&number| number as i64).collect(), output)
