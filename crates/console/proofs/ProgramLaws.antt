@@ -1,10 +1,9 @@
 -- The whole program: what is printed in each case, and that the buffers lent are of the right lengths.
 -- Assumes nothing.
 use mathlib.Core.Path.{_≡_, sym, ap, _∙_}
-use mathlib.Core.Bool.{true, false}
+use mathlib.Core.Bool.{true}
 use mathlib.Core.List.{List}
 use Prim.Native.Nat.{ℕ, _≤_, _<_}
-use native.Mathlib.Omega.{arith}
 use borrow.Author.Tests.{eq-eqb, ne-eqb, eqb-true, eqb-false, le-leb, lt-leb}
 use lib.Dec.{eqb}
 use lib.ListN.{length, take, replicate, length-replicate}
@@ -12,12 +11,12 @@ use lib.Seq.{length-take-le}
 use Rattle.integers.proofs.Places.{by-test, if-true, if-false, and-both}
 use Rattle.instance.specs.Sheet.{instanceOf, refusalOf}
 use Rattle.instance.specs.declared.reading.Layout.{Layout}
-use Rattle.instance.specs.Layout.{refusedBy, described, answerOf, layoutOf}
+use Rattle.instance.specs.Layout.{layoutOf}
 use Rattle.instance.proofs.LaidOut.{laid-out, refusal-is}
 use Rattle.rules.specs.Costs.{Buffers, opened}
 use Rattle.rules.specs.Run.{Ran}
 use Rattle.rules.specs.Calls.{Opened, Report, lengthsOk, openOf, runOf, reportOf, costLimit}
-use Rattle.messages.proofs.OpenLaws.{open-unread, open-fills, lengths-by}
+use Rattle.rules.proofs.Opening.{open-unread, open-fills, lengths-by}
 use Rattle.console.specs.Lines.{refusedLine, textOf}
 use Rattle.console.specs.Program.{mostBytes, ranText, printed}
 
@@ -52,27 +51,6 @@ module _ (s l : List ℕ) where
       ∙ sym (if-true _ _ (eq-eqb (refusalOf s) 0 e) ∙ if-true _ _ (le-leb (length l) mostBytes h))
 
 -- ---- the parts of the four arrays
-
-pub record Few (l : Layout) : Type 0 where
-  pub positions : l .positions ≤ 1_024
-  pub cells : l .cells ≤ 4_096
-  pub nodes : l .nodes ≤ 64
-
-none-few : (s : List ℕ) {l : Layout} → l ≡ layoutOf s → eqb (refusalOf s) 0 ≡ false → Few l
-unfolding layoutOf answerOf refusedBy
-none-few s {l} q t =
-    let e : l ≡ refusedBy (refusalOf s) = q ∙ if-false (described s) (refusedBy (refusalOf s)) t in
-    record {
-      positions = omega (arith, ap (λ (x : Layout). x .positions) e);
-      cells = omega (arith, ap (λ (x : Layout). x .cells) e);
-      nodes = omega (arith, ap (λ (x : Layout). x .nodes) e);
-    }
-
-pub few : (s : List ℕ) {l : Layout} → l ≡ layoutOf s → Few l
-few s q =
-    by-test (eqb (refusalOf s) 0)
-    (λ t. let d = laid-out s q (refusal-is s q ∙ eqb-true (refusalOf s) 0 t) in record { positions = d .positionsFew; cells = d .cellsFew; nodes = d .nodesFew })
-    (none-few s q)
 
 pub part-length {ℓ} : {A : Type ℓ} (m n : ℕ) (a : A) → n ≤ m → length (take n (replicate m a)) ≡ n
 part-length m n a h = length-take-le n (replicate m a) (rw (length-replicate m a) h)

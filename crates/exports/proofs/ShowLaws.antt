@@ -53,7 +53,7 @@ module _ (s : List ℕ) {l : Layout} {e : ℕ} (a : EdgeAsked s l e) where
   pub sized : {from to : ℕ} → from ≡ table (I s) e → to ≡ table (I s) (e + 1) → Sized s e from to
   unfolding table
   sized f t = record {
-    small = omega (arith, f, table-inside (known .sound .proper) (there s a), known .sound .proper .cellsFew);
+    small = omega (arith, f, table-inside (instanceOf s) (there s a), known .sound .proper .cellsFew);
     size = t ∙ offset-more (tableSize (I s)) e ∙ ap (λ (x : ℕ). x + tableSize (I s) e) (sym f);
     few = table-few (known .sound .proper) (there s a);
   }

@@ -1,20 +1,17 @@
--- What other crates know of an index: that `indexOf` is one, what its rows hold, and how many things a key can have.
+-- What other crates know of an index: that `indexOf` is one, and what its rows hold.
 -- Assumes nothing.
 use mathlib.Core.Path.{_≡_, sym, ap, _∙_}
-use mathlib.Core.Bool.{true, false}
-use mathlib.Core.List.{List, [], _∷_}
-use Prim.Native.Nat.{ℕ, zero, suc, _+_, _*_, _≤_, _<_}
+use mathlib.Core.List.{List}
+use Prim.Native.Nat.{ℕ, suc, _+_, _*_, _≤_, _<_}
 use native.Mathlib.Nat.{mul-le-mul-left, mul-suc}
 use native.Mathlib.Omega.{arith}
-use borrow.Author.Tests.{eqb-true}
-use lib.Dec.{eqb}
-use lib.ListN.{length, getD, take, drop, length-append, length-drop}
+use lib.ListN.{length, getD, take, drop, length-map, length-drop}
 use lib.Seq.{length-take-le, getD-take, getD-drop, take-all, ext-getD}
-use Rattle.integers.specs.Places.{range, select}
-use Rattle.integers.proofs.Places.{by-test}
+use Rattle.integers.specs.Places.{range}
+use Rattle.integers.proofs.Places.{length-range}
 use Rattle.integers.proofs.Ranges.{range-part}
 use Rattle.index.specs.Index.{keyAt, indexOf, having, many, held, Indexed, Indexable}
-use Rattle.index.proofs.Lists.{length-map, length-range, select-next, select-past, having-ext, at-place}
+use Rattle.index.proofs.Lists.{having-ext, at-place}
 use Rattle.index.proofs.Filling.{rows-size, rows-at, cellOf, filled, filled-all, counted-by}
 
 -- ---- the index of some bytes
@@ -85,35 +82,4 @@ indexed-part s from size stride {key} {m} fits all each few keys roomy =
 
 -- a row has as many things as there are
 pub many-is : {key : ℕ → ℕ} {m : ℕ} {index : List ℕ} → Indexed key m index → (l : ℕ) → l < 64 → many index l ≡ length (having key l m)
-many-is {key} {m} {index} x l h = sym (ap length (sym (x .rows l h)) ∙ length-map (λ j. getD index j 0) (range (65 * l + 1) (many index l)) ∙ length-range (65 * l + 1) (many index l))
-
--- ---- how many things a key can have: as many as a rising number of theirs has values
-
-module _ (key g : ℕ → ℕ) (l m : ℕ) (up : (i j : ℕ) → i < j → j < m → key i ≡ l → key j ≡ l → g i < g j) where
-  -- those below n, with n itself or without
-  counted-next : (n : ℕ) → eqb (key n) l ≡ true → length (having key l (suc n)) ≡ length (having key l n) + 1
-  counted-next n t = let z : suc n ≡ n + 1 = omega arith in ap (λ (j : ℕ). length (having key l j)) z ∙ ap length (select-next (λ j. eqb (key j) l) n t) ∙ length-append (having key l n) (n ∷ [])
-
-  counted-past : (n : ℕ) → eqb (key n) l ≡ false → length (having key l (suc n)) ≡ length (having key l n)
-  counted-past n t = let z : suc n ≡ n + 1 = omega arith in ap (λ (j : ℕ). length (having key l j)) z ∙ ap length (select-past (λ j. eqb (key j) l) n t)
-
-  ahead : (n i : ℕ) → n ≤ i → i < m → key i ≡ l → length (having key l n) ≤ g i
-  unfolding range select
-  ahead zero i h b k = omega arith
-  ahead (suc n) i h b k =
-      by-test (eqb (key n) l)
-      (λ t. let q = eqb-true (key n) l t in
-      let e = counted-next n t in
-      let r = ahead n n (omega arith) (omega arith) q in
-      let w = up n i (omega arith) b q k in omega arith)
-      (λ t. let e = counted-past n t in let r = ahead n i (omega arith) b k in omega arith)
-
-  pub few-by : (bound : ℕ) → ((i : ℕ) → i < m → g i < bound) → (n : ℕ) → n ≤ m → length (having key l n) ≤ bound
-  unfolding range select
-  few-by bound h zero b = omega arith
-  few-by bound h (suc n) b =
-      by-test (eqb (key n) l)
-      (λ t. let e = counted-next n t in
-      let r = ahead n n (omega arith) (omega arith) (eqb-true (key n) l t) in
-      let w = h n (omega arith) in omega arith)
-      (λ t. let e = counted-past n t in let r = few-by bound h n (omega arith) in omega arith)
+many-is {key} {m} {index} x l h = sym (ap length (sym (x .rows l h)) ∙ length-map (range (65 * l + 1) (many index l)) (λ j. getD index j 0) ∙ length-range (65 * l + 1) (many index l))

@@ -2,7 +2,7 @@
 -- Assumes nothing.
 use mathlib.Core.Path.{_≡_, refl, sym, ap, ap₂, _∙_, subst}
 use mathlib.Core.Bool.{Bool, true, false, cond}
-use mathlib.Core.List.{List, [], _∷_, _++_, map, append-nil}
+use mathlib.Core.List.{List, [], _∷_, _++_, append-nil}
 use mathlib.Core.List.{List·Memᴰ as Mem, List·Memᴰ·head as here, List·Memᴰ·tail as there}
 use Prim.Native.Nat.{ℕ, zero, suc, _+_, _<_}
 use native.Mathlib.Nat.{not-suc-le-zero}
@@ -15,19 +15,6 @@ use Rattle.integers.specs.Places.{range, select}
 use Rattle.integers.proofs.Places.{by-test, range-mem}
 use Rattle.integers.proofs.Ranges.{range-add, select-append}
 use Rattle.index.specs.Index.{having}
-
-pub append-map : {A : Type 0} (f : ℕ → A) (k l : List ℕ) → map f (k ++ l) ≡ map f k ++ map f l
-append-map f [] l = refl
-append-map {A = A} f (x ∷ k) l = ap (λ (t : List A). f x ∷ t) (append-map f k l)
-
-pub length-map : {A : Type 0} (f : ℕ → A) (l : List ℕ) → length (map f l) ≡ length l
-length-map f [] = refl
-length-map f (x ∷ l) = ap suc (length-map f l)
-
-pub length-range : (a n : ℕ) → length (range a n) ≡ n
-unfolding range
-length-range a zero = refl
-length-range a (suc n) = ap suc (length-range (suc a) n)
 
 -- tests that agree select alike
 pub select-ext : (t u : ℕ → Bool) (l : List ℕ) → ((i : ℕ) → Mem i l → t i ≡ u i) → select t l ≡ select u l

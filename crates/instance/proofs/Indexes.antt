@@ -8,7 +8,7 @@ use Prim.Native.Nat.{ℕ, zero, suc, _+_, _-_, _*_, _≤_, _<_}
 use native.Mathlib.Omega.{arith}
 use borrow.Author.Tests.{eqb-true}
 use lib.Dec.{eqb}
-use lib.ListN.{length, getD, take, drop, length-append}
+use lib.ListN.{length, take, drop, length-append}
 use Rattle.integers.specs.Places.{range, select, offset}
 use Rattle.integers.proofs.Ranges.{range-add, select-append}
 use Rattle.integers.proofs.Counting.{climbs, select-few}

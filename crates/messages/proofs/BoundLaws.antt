@@ -21,7 +21,7 @@ use Rattle.integers.proofs.Least.{least-ind}
 use Rattle.integers.proofs.Places.{by-test, length-tabulate, getD-tabulate}
 use Rattle.integers.proofs.Totals.{total-ext}
 use Rattle.integers.proofs.Ranges.{range-part}
-use Rattle.instance.specs.Instance.{Instance, first, nodeCells, tableSize, table, edgeCells}
+use Rattle.instance.specs.Instance.{Instance, first, nodeCells, tableSize, table}
 use Rattle.instance.specs.Sheet.{instanceOf}
 use Rattle.instance.specs.Readable.{Proper}
 use Rattle.instance.proofs.LaidOut.{row-inside, table-inside, table-some}
@@ -78,14 +78,14 @@ module _ {s : List ℕ} {v : View} (w : Viewed s v) {nodes labels edges : List �
   by-node =
       ap (λ (m : ℕ). total m (partLeast (sizeOf J false) nodes)) (w .nodes)
       ∙ total-ext (J .nodeCount) (partLeast (sizeOf J false) nodes) (nodeLeast J (costsOf buffers))
-      (λ u h. ap leastOf (sym (range-part nodes (pos 0) (first J u) (J .degree u) (omega (arith, fn .size, row-inside (good w) h)))))
+      (λ u h. ap leastOf (sym (range-part nodes (pos 0) (first J u) (J .degree u) (omega (arith, fn .size, row-inside J h)))))
 
   pub by-edge : total (v .edges) (partLeast (sizeOf J true) edges) ≡ total (J .edgeCount) (edgeLeast J (costsOf buffers))
   unfolding edgeLeast edgePlaces table
   by-edge =
       ap (λ (m : ℕ). total m (partLeast (sizeOf J true) edges)) (w .edges)
       ∙ total-ext (J .edgeCount) (partLeast (sizeOf J true) edges) (edgeLeast J (costsOf buffers))
-      (λ k h. ap leastOf (sym (range-part edges (pos 0) (table J k) (tableSize J k) (omega (arith, fe .size, table-inside (good w) h)))))
+      (λ k h. ap leastOf (sym (range-part edges (pos 0) (table J k) (tableSize J k) (omega (arith, fe .size, table-inside J h)))))
 
   pub by-label : total (v .labels) (λ l. getD (leastLabels J labels (nodeCells J)) l (pos 0)) ≡ total (J .labelCount) (labelLeast J (costsOf buffers))
   unfolding labelLeast labelPlaces

@@ -105,10 +105,10 @@ module _ (I : Instance) where
     width = I .degree (I .high e)
 
     row-fits : first I u + I .degree u ≤ length nodes
-    row-fits = omega (arith, row-inside p hu)
+    row-fits = omega (arith, row-inside I hu)
 
     cells-fit : table I e + tableSize I e ≤ length edges
-    cells-fit = omega (arith, table-inside p he)
+    cells-fit = omega (arith, table-inside I he)
 
     row-length : length row ≡ I .degree u
     row-length = length-part nodes (first I u) (I .degree u) row-fits
@@ -233,10 +233,10 @@ module _ {s : List ℕ} {v : View} {starts tables : List ℕ} {nodes edges : Lis
     size = ap₂ _*_ et ew
 
     pub row-ends : a + deg ≤ length nodes
-    row-ends = omega (arith, ea, row-inside sound (g .node), g .nodeCosts .size)
+    row-ends = omega (arith, ea, row-inside J (g .node), g .nodeCosts .size)
 
     pub table-ends : c + height * width ≤ length edges
-    table-ends = omega (arith, ec, size, table-inside sound (g .edge), g .edgeCosts .size)
+    table-ends = omega (arith, ec, size, table-inside J (g .edge), g .edgeCosts .size)
 
     pub row-room : a + deg ≤ 1_024
     row-room = omega (arith, row-ends, positions-few sound, g .nodeCosts .size)

@@ -1,21 +1,21 @@
 -- The incumbent's laws over plain values: bytes that mean none, labels that are taken, sums of prices, what replaces what, and bytes copied in turn.
 -- Assumes nothing.
 use mathlib.Core.Path.{_≡_, refl, sym, ap, ap₂, _∙_}
-use mathlib.Core.Bool.{Bool, true, false, not, cond, _&&_, _||_}
+use mathlib.Core.Bool.{Bool, true, false, cond, _&&_, _||_}
 use mathlib.Core.List.{List, [], _∷_, _++_}
-use Prim.Native.Nat.{ℕ, zero, suc, _+_, _*_, _≤_, _<_}
+use Prim.Native.Nat.{ℕ, suc, _+_, _*_, _≤_, _<_}
 use native.Mathlib.Numerals.{add-one}
 use native.Mathlib.Omega.{arith}
-use borrow.Author.Tests.{eq-eqb, ne-eqb, eqb-true, eqb-false, lt-ltb, le-ltb}
+use borrow.Author.Tests.{lt-ltb, le-ltb}
 use lib.Dec.{eqb, ltb}
-use lib.ListN.{length, getD, set, take, drop, replicate, length-set, length-replicate, getD-replicate}
-use lib.Seq.{ext-getD, getD-set-same, getD-set-other, take-suc, drop-cons, append-snoc, set-at, length-take-le, take-all, drop-length}
-use lib.IntN.{ℤ, pos, _+ℤ_, natAbs}
+use lib.ListN.{length, getD, set, take, drop, replicate}
+use lib.Seq.{take-suc, drop-cons, append-snoc, set-at, length-take-le, take-all, drop-length}
+use lib.IntN.{ℤ, pos, _+ℤ_}
 use lib.Signed.{ltZ}
-use Rattle.integers.specs.Places.{range, every, tabulate, total}
+use Rattle.integers.specs.Places.{every, tabulate, total}
 use Rattle.integers.specs.Checks.{below}
 use Rattle.integers.proofs.Parts.{linear, add}
-use Rattle.integers.proofs.Places.{by-test, if-true, if-false, and-both, length-tabulate, getD-tabulate}
+use Rattle.integers.proofs.Places.{if-true, if-false, length-tabulate, getD-tabulate}
 use Rattle.integers.proofs.Totals.{total-zero}
 use Rattle.integers.proofs.Checks.{Tested, tested-none, tested-more, tested-all, below-fails}
 use Rattle.instance.specs.Instance.{Instance, nodeCells, cell}
@@ -27,7 +27,7 @@ use Rattle.rules.specs.Calls.{isMatching, incumbentOk}
 use Rattle.rules.proofs.Calls.{is-matching}
 use Rattle.messages.specs.Seen.{startsOf, tablesOf}
 use Rattle.messages.specs.Incumbent.{replaces, adoptedOf}
-use Rattle.messages.proofs.SheetLaws.{proper, start-is, table-is}
+use Rattle.messages.proofs.SheetLaws.{start-is, table-is}
 use Rattle.messages.proofs.UnusedLaws.{unused, free-is, untaken-none, untaken-more}
 
 -- ---- bytes that mean none
@@ -50,7 +50,7 @@ module _ (s : List ℕ) (r : refusalOf s ≡ 0) {starts : List ℕ} (b : starts 
   place-is = ap (λ (z : ℕ). z + getD x u 0) (start-is s b r h)
 
   pub place-in : getD x u 0 < instanceOf s .degree u → getD starts u 0 + getD x u 0 < nodeCells (instanceOf s)
-  place-in g = omega (arith, start-is s b r h, row-inside (proper s r) h)
+  place-in g = omega (arith, start-is s b r h, row-inside (instanceOf s) h)
 
 pub cell-is : (s : List ℕ) (r : refusalOf s ≡ 0) {tables : List ℕ} → tables ≡ tablesOf s → (x : List ℕ) {e : ℕ} → e < instanceOf s .edgeCount → {a c d : ℕ}
     → a ≡ instanceOf s .low e → c ≡ instanceOf s .high e → d ≡ instanceOf s .degree c → getD tables e 0 + (d * getD x a 0 + getD x c 0) ≡ chosenCell (instanceOf s) x e

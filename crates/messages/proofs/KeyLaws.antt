@@ -1,15 +1,14 @@
 -- The keys of a node's positions: node costs, and the rows of its edges to lower nodes added one after another.
 -- Assumes nothing.
 use mathlib.Core.Path.{_≡_, refl, sym, ap, ap₂, _∙_, subst}
-use mathlib.Core.Bool.{Bool, cond}
-use mathlib.Core.List.{List, [], _∷_, _++_, map}
+use mathlib.Core.List.{List, [], _∷_, _++_, map, map-append}
 use Prim.Native.Nat.{ℕ, zero, suc, _+_, _-_, _*_, _≤_, _<_, _^_}
 use native.Mathlib.Nat.{not-suc-le-zero, add-assoc, mul-suc, mul-comm, mul-le-mul-left}
 use native.Mathlib.Numerals.{add-one}
 use native.Mathlib.Omega.{arith}
 use borrow.Author.Tests.{lt-ltb, le-ltb, ltb-true, ltb-false}
 use lib.Dec.{ltb, eqb}
-use lib.ListN.{length, getD, take, drop, set, replicate, length-append, length-replicate, getD-replicate, List·getD-eq-default}
+use lib.ListN.{length, getD, take, drop, set, replicate, length-replicate, getD-replicate, List·getD-eq-default}
 use lib.Seq.{ext-getD, getD-take, getD-drop}
 use lib.IntN.{ℤ, pos, natAbs, _+ℤ_}
 use Rattle.integers.specs.Sum.{Within}
@@ -22,7 +21,7 @@ use Rattle.integers.proofs.Sum.{abs-add}
 use Rattle.integers.proofs.Rows.{length-part, getD-part}
 use Rattle.index.specs.Index.{having, many, Indexed}
 use Rattle.index.proofs.Indexed.{many-is}
-use Rattle.index.proofs.Lists.{append-map, select-next, select-past, at-place}
+use Rattle.index.proofs.Lists.{select-next, select-past, at-place}
 use Rattle.instance.specs.Instance.{Instance, first, tableSize, table, cell}
 use Rattle.instance.specs.Sheet.{instanceOf}
 use Rattle.instance.proofs.LaidOut.{table-inside}
@@ -228,7 +227,7 @@ module _ {key : ℕ → ℕ} {m : ℕ} {index : List ℕ} (x : Indexed key m ind
   things n = map (λ j. getD index j 0) (range (65 * u + 1) n)
 
   pub things-more : (n : ℕ) → things (n + 1) ≡ things n ++ getD index (65 * u + 1 + n) 0 ∷ []
-  things-more n = rw (add-one n, range-last (65 * u + 1) n) (append-map (λ j. getD index j 0) (range (65 * u + 1) n) ((65 * u + 1 + n) ∷ []))
+  things-more n = rw (add-one n, range-last (65 * u + 1) n) (map-append (λ j. getD index j 0) (range (65 * u + 1) n) ((65 * u + 1 + n) ∷ []))
 
   -- each has the key
   pub thing-keyed : {n : ℕ} → n < many index u → key (getD index (65 * u + 1 + n) 0) ≡ u
@@ -250,4 +249,4 @@ row-room {s} w f x placed {e} h q =
     let J = instanceOf s in
     let k : e < J .edgeCount = omega (arith, w .edges) in
     let p = placed (J .low e) (omega (arith, proper s (w .readable) .ordered e k)) in
-    omega (arith, row-end (J .degree (J .high e)) (J .degree (J .low e)) (position x (J .low e)) p, table-inside (proper s (w .readable)) k, f .size)
+    omega (arith, row-end (J .degree (J .high e)) (J .degree (J .low e)) (position x (J .low e)) p, table-inside J k, f .size)

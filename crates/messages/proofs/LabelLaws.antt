@@ -2,7 +2,7 @@
 -- Assumes nothing.
 use mathlib.Core.Path.{_≡_, refl, sym, ap, _∙_}
 use mathlib.Core.Bool.{Bool, cond}
-use mathlib.Core.List.{List, [], _∷_, _++_, map}
+use mathlib.Core.List.{List, [], _∷_, _++_, map, map-append}
 use Prim.Native.Nat.{ℕ, _+_, _<_}
 use native.Mathlib.Omega.{arith}
 use borrow.Author.Tests.{eq-eqb, ne-eqb, eqb-true, eqb-false}
@@ -15,10 +15,9 @@ use Rattle.integers.specs.Places.{range, select, tabulate}
 use Rattle.integers.proofs.Places.{by-test, if-true, if-false, length-tabulate, getD-tabulate}
 use Rattle.integers.proofs.Ranges.{range-add, select-append}
 use Rattle.integers.proofs.Least.{least-append, least-min}
-use Rattle.index.proofs.Lists.{append-map}
 use Rattle.instance.specs.Instance.{Instance}
 use Rattle.messages.specs.Bounds.{labelBelow, leastLabels}
-use Rattle.messages.proofs.FillLaws.{tabulate-same}
+use Rattle.integers.proofs.Filling.{tabulate-same}
 
 pub tabulate-ext : {A : Type 0} (n : ℕ) (f g : ℕ → A) → ((k : ℕ) → k < n → f k ≡ g k) → (d : A) → tabulate n f ≡ tabulate n g
 tabulate-ext n f g h d =
@@ -58,7 +57,7 @@ module _ (I : Instance) (labels : List ℤ) where
       let z : 0 + i ≡ i = omega arith in
       ap (λ (m : List ℕ). leastFrom (pos 0) (map f (select t m))) (range-add 0 i 1 ∙ ap (λ (k : ℕ). range 0 i ++ range k 1) z)
       ∙ ap (λ (m : List ℕ). leastFrom (pos 0) (map f m)) (select-append t (range 0 i) (i ∷ []))
-      ∙ ap (leastFrom (pos 0)) (append-map f (select t (range 0 i)) (select t (i ∷ [])))
+      ∙ ap (leastFrom (pos 0)) (map-append f (select t (range 0 i)) (select t (i ∷ [])))
       ∙ least-append (pos 0) (map f (select t (range 0 i))) (map f (select t (i ∷ [])))
       ∙ by-test (eqb (I .label i) l)
       (λ q. let e : I .label i ≡ l = eqb-true (I .label i) l q in

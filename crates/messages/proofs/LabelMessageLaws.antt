@@ -1,7 +1,7 @@
 -- Kinds 3 and 4: what a place gives to its label or takes from it, that it fits, and the one amount moved.
 -- Assumes nothing.
 use mathlib.Core.Path.{_≡_, refl, sym, ap, ap₂, _∙_}
-use mathlib.Core.Bool.{Bool, true, false, _&&_}
+use mathlib.Core.Bool.{true, false, _&&_}
 use mathlib.Core.List.{List, [], _∷_, map}
 use Prim.Native.Nat.{ℕ, zero, suc, _+_, _≤_, _<_, _^_}
 use native.Mathlib.Omega.{arith}
@@ -26,9 +26,8 @@ use Rattle.instance.proofs.LaidOut.{row-inside}
 use Rattle.rules.specs.Places.{nodePlaces, labelPlaces}
 use Rattle.rules.specs.Calls.{costLimit}
 use Rattle.messages.specs.Lent.{NodeFits}
-use Rattle.messages.specs.LabelMessage.{labelRival, labelMove, labelMoved, nodeAmount, labelAmount, labelGiven, PlaceAsked}
+use Rattle.messages.specs.LabelMessage.{labelRival, labelMove, labelMoved, nodeAmount, labelAmount, PlaceAsked}
 use Rattle.messages.proofs.RowLaws.{least-of-within, amount-none, apart-fits}
-use Rattle.messages.proofs.SheetLaws.{proper}
 
 -- what a cost within the limit gives against such rivals
 amount-fits : (x : ℤ) (rivals : List ℤ) (r : ℕ) → natAbs x ≤ costLimit → Within costLimit rivals → natAbs (amount x rivals r) ≤ 2 ^ 41
@@ -42,7 +41,7 @@ module _ {s : List ℕ} {at u k share : ℕ} (q : PlaceAsked s at u k share) {l 
   I = instanceOf s
 
   pub row-in : at + I .degree u ≤ length l
-  row-in = omega (arith, f .size, q .begins, row-inside (proper s (q .readable)) (q .node))
+  row-in = omega (arith, f .size, q .begins, row-inside (instanceOf s) (q .node))
 
   pub place-in : at + k < length l
   place-in = omega (arith, row-in, q .position)

@@ -3,7 +3,7 @@
 use mathlib.Core.Path.{_≡_, sym, ap, _∙_}
 use mathlib.Core.Bool.{Bool, true, false, cond, _&&_, _||_}
 use mathlib.Core.List.{List}
-use Prim.Native.Nat.{ℕ, _+_, _*_, _≤_}
+use Prim.Native.Nat.{ℕ, _≤_}
 use native.Mathlib.Omega.{arith}
 use borrow.Author.Tests.{eq-eqb, ne-eqb, eqb-true}
 use lib.Dec.{eqb}
@@ -25,7 +25,7 @@ use Rattle.rules.specs.Calls.{lengthsOk, isMatching, incumbentOk, lentChecks, l
 use Rattle.messages.specs.Lent.{NodeFits, EdgeFits}
 use Rattle.messages.specs.Seen.{viewOf, Viewed, Seen}
 use Rattle.messages.proofs.RowLaws.{all-within}
-use Rattle.messages.proofs.OpenLaws.{lengths-are}
+use Rattle.rules.proofs.Opening.{lengths-are}
 
 -- ---- what reading answered of a readable sheet
 

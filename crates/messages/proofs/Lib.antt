@@ -3,8 +3,6 @@ pub mod RowLaws
 pub mod ExcessLaws
 pub mod LeastLaws
 pub mod SheetLaws
-pub mod FillLaws
-pub mod OpenLaws
 pub mod SumLaws
 pub mod BoundLaws
 pub mod LabelLaws

@@ -1,18 +1,17 @@
 -- Legality: what the code's tests say of it, and what a legal record is known by.
 -- Assumes nothing.
-use mathlib.Core.Path.{_≡_, refl, sym}
-use mathlib.Core.Bool.{Bool, true, false, _&&_, _||_}
+use mathlib.Core.Path.{_≡_, sym}
+use mathlib.Core.Bool.{Bool, true, false}
 use mathlib.Core.List.{List}
-use mathlib.Core.Logic.{_⊎_, inl, inr}
 use Prim.Native.Nat.{ℕ, _+_, _≤_, _<_}
-use native.Mathlib.Omega.{arith}
-use borrow.Author.Tests.{eq-eqb, ne-eqb, eqb-true, lt-ltb, le-ltb, ltb-true, leb-true, le-leb, lt-leb}
+use borrow.Author.Tests.{eq-eqb, ne-eqb, lt-ltb, le-ltb, le-leb, lt-leb}
 use lib.Dec.{leb, ltb, eqb}
 use lib.IntN.{ℤ}
-use Rattle.integers.proofs.Places.{if-true, if-false, and-true}
+use Rattle.integers.proofs.Places.{if-true, if-false}
 use Rattle.instance.specs.Instance.{Instance, first}
 use Rattle.instance.specs.Sheet.{instanceOf, refusalOf}
 use Rattle.rules.specs.Run.{legalShare, legalEdge, legalPosition}
+use Rattle.rules.proofs.Run.{legal-edge-is, legal-position-is}
 use Rattle.messages.specs.declared.view.View.{View}
 use Rattle.messages.specs.Lent.{NodeFits, EdgeFits}
 use Rattle.messages.specs.Seen.{Seen}
@@ -29,10 +28,6 @@ share-none r h = rw (lt-leb 1 r h)
 pub share-some : (r : ℕ) → 1 ≤ r → leb r 64 ≡ legalShare r
 unfolding legalShare
 share-some r h = rw (le-leb 1 r h)
-
-pub share-is : (r : ℕ) → legalShare r ≡ true → 1 ≤ r
-unfolding legalShare
-share-is r h = let (a, b) = and-true (leb 1 r) (leb r 64) h in leb-true 1 r a
 
 -- ---- edges
 
@@ -60,23 +55,6 @@ module _ (I : Instance) (u e r : ℕ) where
         unfolding legalEdge
         edge-high l = rw (h, lt-ltb u (I .nodeCount) g, lt-ltb e (I .edgeCount) k, ne-eqb u (I .low e) l)
 
-  either : (a b : Bool) → (a || b) ≡ true → (a ≡ true) ⊎ (b ≡ true)
-  either true b h = inl refl
-  either false b h = inr h
-
-  -- what a legal record names exists
-  pub legal-edge-is : legalEdge I u e r ≡ true → (1 ≤ r) × (u < I .nodeCount) × (e < I .edgeCount) × ((u ≡ I .low e) ⊎ (u ≡ I .high e))
-  unfolding legalEdge
-  legal-edge-is h =
-      let (abc, d) = and-true (legalShare r && ltb u (I .nodeCount) && ltb e (I .edgeCount)) (eqb u (I .low e) || eqb u (I .high e)) h in
-      let (ab, c) = and-true (legalShare r && ltb u (I .nodeCount)) (ltb e (I .edgeCount)) abc in
-      let (a, b) = and-true (legalShare r) (ltb u (I .nodeCount)) ab in
-      (share-is r a, ltb-true u (I .nodeCount) b, ltb-true e (I .edgeCount) c, ends (either (eqb u (I .low e)) (eqb u (I .high e)) d))
-    where
-      ends : (eqb u (I .low e) ≡ true) ⊎ (eqb u (I .high e) ≡ true) → (u ≡ I .low e) ⊎ (u ≡ I .high e)
-      ends (inl t) = inl (eqb-true u (I .low e) t)
-      ends (inr t) = inr (eqb-true u (I .high e) t)
-
 -- ---- positions
 
 module _ (I : Instance) (u k r : ℕ) where
@@ -92,13 +70,6 @@ module _ (I : Instance) (u k r : ℕ) where
     pub position-some : u < I .nodeCount → ltb k (I .degree u) ≡ legalPosition I u k r
     unfolding legalPosition
     position-some g = rw (h, lt-ltb u (I .nodeCount) g)
-
-  pub legal-position-is : legalPosition I u k r ≡ true → (1 ≤ r) × (u < I .nodeCount) × (k < I .degree u)
-  unfolding legalPosition
-  legal-position-is h =
-      let (ab, c) = and-true (legalShare r && ltb u (I .nodeCount)) (ltb k (I .degree u)) h in
-      let (a, b) = and-true (legalShare r) (ltb u (I .nodeCount)) ab in
-      (share-is r a, ltb-true u (I .nodeCount) b, ltb-true k (I .degree u) c)
 
 -- ---- taken, or refused
 

@@ -1,7 +1,7 @@
 -- A label's other costs, as the index of places by label has them.
 -- Assumes nothing.
 use mathlib.Core.Path.{_≡_, refl, sym, ap, _∙_}
-use mathlib.Core.List.{List, [], _∷_, map}
+use mathlib.Core.List.{List, [], _∷_, map, map-append}
 use Prim.Native.Nat.{ℕ, _+_, _<_}
 use borrow.Author.Tests.{eq-eqb, ne-eqb}
 use lib.ListN.{getD}
@@ -15,7 +15,6 @@ use Rattle.rules.specs.Places.{labelPlaces}
 use Rattle.index.specs.Index.{having, held, Indexed}
 use Rattle.messages.specs.LabelMessage.{labelRival}
 use Rattle.messages.proofs.RowLaws.{least-parts}
-use Rattle.index.proofs.Lists.{append-map}
 
 -- ---- the rivals of the place `own` in a row of the index, one after another
 
@@ -37,9 +36,9 @@ module _ (f : ℕ → ℤ) (own : ℕ) (index : List ℕ) (from : ℕ) where
       let a = others own (map g (range from n)) in
       let b = others own (g (from + n) ∷ []) in
       sym (ap (λ (l : List ℕ). leastFrom (pos 0) (map f (others own (map g l)))) (range-add from n 1)
-      ∙ ap (λ (l : List ℕ). leastFrom (pos 0) (map f (others own l))) (append-map g (range from n) ((from + n) ∷ []))
+      ∙ ap (λ (l : List ℕ). leastFrom (pos 0) (map f (others own l))) (map-append g (range from n) ((from + n) ∷ []))
       ∙ ap (λ (l : List ℕ). leastFrom (pos 0) (map f l)) (select-append _ (map g (range from n)) (g (from + n) ∷ []))
-      ∙ ap (leastFrom (pos 0)) (append-map f a b)
+      ∙ ap (leastFrom (pos 0)) (map-append f a b)
       ∙ least-append (pos 0) (map f a) (map f b) ∙ least-parts (pos 0) (map f a) (map f b))
 
 -- at one place

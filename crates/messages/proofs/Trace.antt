@@ -2,7 +2,7 @@
 -- Assumes nothing.
 use Prim.Native.Nat.{ℕ}
 use mathlib.Core.Path.{_≡_, refl, ap, ap₂, sym, subst, _∙_}
-use mathlib.Core.Bool.{true, cond}
+use mathlib.Core.Bool.{cond}
 use mathlib.Core.List.{List, [], _∷_}
 use contract.Lifetimes.{Lfts}
 use borrow.Fn.World.{ArgsD, ResD}
@@ -11,20 +11,20 @@ use denote.Triple.Clauses.{Ended, AtExit, Lasts, atExit}
 use denote.Ref.{RefT, now}
 use lib.Dec.{eqb}
 use lib.IntN.{ℤ}
-use Rattle.integers.proofs.Places.{by-test, if-true, if-false, and-both}
+use Rattle.integers.proofs.Places.{by-test, if-true, if-false}
 use Rattle.instance.specs.Sheet.{instanceOf, refusalOf}
 use Rattle.rules.specs.Costs.{Buffers, opened}
 use Rattle.rules.specs.Run.{Ran}
 use Rattle.rules.specs.Calls as calls
 use Rattle.rules.specs.Calls.{Opened, lengthsOk, openRefusal, openOf, runOf, reportOf, costLimit, Call, run, report, opening, ran, reported, Point, next, rules, points}
 use Rattle.rules.specs.Demand.{Holds}
-use Rattle.rules.proofs.Calls.{Under, sound, rules-hold}
+use Rattle.rules.proofs.Calls.{Under, lengths-ok, sound, rules-hold}
 use Rattle.messages.specs.declared.answers.Answer.{Answer}
 use Rattle.messages.specs.declared.answers.Report.{Report}
 use Rattle.messages.specs.declared.answers.Report.the-variants.{Refused, Bound, Kept}
 use Rattle.messages.specs.Lent.{lent, opens}
 use Rattle.messages.specs.Answers.{reportedAs, ranAs}
-use Rattle.messages.proofs.OpenLaws.{by-checks, open-fills}
+use Rattle.rules.proofs.Opening.{by-checks, open-fills}
 use Rattle.messages.proofs.opening.open as Open
 use Rattle.messages.proofs.opening.open.Reads as OpenReads
 use Rattle.messages.proofs.list.run as Run
@@ -180,13 +180,6 @@ trace s cs ps t = (as-ruled t, subst (Holds (instanceOf s)) (sym (as-ruled t)) (
 abbrev ref : {A : Type 0} → List A → RefT (List A)
 ref l = record { ptr = (0, 0); name = 0; now = l }
 
--- what opening leaves has the lengths that opening asks for
-lengths-opened : (s : List ℕ) → refusalOf s ≡ 0 → lengthsOk (instanceOf s) (opened (instanceOf s)) ≡ true
-unfolding lengthsOk rules
-lengths-opened s h =
-    let z = sound s h [] .sized in
-    and-both (and-both (and-both (eq-eqb _ _ (z .nodes)) (eq-eqb _ _ (z .labels))) (eq-eqb _ _ (z .edges))) (eq-eqb _ _ (z .incumbent))
-
 -- an opening that answers 0, lent b and leaving n
 some-open : (s : List ℕ) (b n : Buffers) → opens n 0 ≡ openOf s b → Opens s b 0 n
 some-open s b n e = opened-by (record {
@@ -256,6 +249,6 @@ more-report s (c ∷ cs) t = report-at s (c ∷ cs) (rules s (c ∷ cs)) (points
 -- on a readable sheet every list of calls with this limit has a trace, with the points of the rules
 pub every : (s : List ℕ) → refusalOf s ≡ 0 → (cs : List Call) → Under costLimit cs → Trace s cs (points s cs)
 unfolding points rules
-every s h [] u = start (some-open s (opened (instanceOf s)) (opened (instanceOf s)) (open-fills s (opened (instanceOf s)) h (lengths-opened s h)))
+every s h [] u = start (some-open s (opened (instanceOf s)) (opened (instanceOf s)) (open-fills s (opened (instanceOf s)) h (lengths-ok (instanceOf s) (sound s h [] .sized))))
 every s h (run k l ∷ cs) (e, u) = subst (λ (k : ℕ). Trace s (run k l ∷ cs) (points s (run k l ∷ cs))) (sym e) (more-run s l cs (every s h cs u))
 every s h (report k ∷ cs) (e, u) = subst (λ (k : ℕ). Trace s (report k ∷ cs) (points s (report k ∷ cs))) (sym e) (more-report s cs (every s h cs u))

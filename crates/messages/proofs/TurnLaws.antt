@@ -6,28 +6,28 @@ use mathlib.Core.List.{List, [], _∷_}
 use mathlib.Core.Logic.{_⊎_, inl, inr}
 use Prim.Native.Nat.{ℕ, zero, suc, _+_, _≤_, _<_}
 use native.Mathlib.Omega.{arith}
-use borrow.Author.Tests.{eq-eqb, eqb-true}
+use borrow.Author.Tests.{eqb-true}
 use lib.Dec.{eqb}
 use lib.ListN.{length, replicate}
 use lib.IntN.{ℤ, negℤ, _+ℤ_}
 use Rattle.integers.specs.Places.{every}
 use Rattle.integers.specs.Checks.{within}
 use Rattle.integers.specs.Rows.{addAt}
-use Rattle.integers.proofs.Places.{by-test, and-true, by-cond, every-replicate}
-use Rattle.instance.specs.Instance.{Instance, first, nodeCells, edgeCells}
+use Rattle.integers.proofs.Places.{by-test, and-true, by-cond}
+use Rattle.instance.specs.Instance.{Instance, first, nodeCells}
 use Rattle.instance.specs.Sheet.{instanceOf}
 use Rattle.instance.proofs.Readable as sheet
 use Rattle.instance.proofs.LaidOut.{row-inside}
 use Rattle.instance.specs.Readable.{Proper}
-use Rattle.rules.specs.Costs.{Buffers, costsOf, inRange, Sized, Matching}
+use Rattle.rules.specs.Costs.{Buffers, costsOf, inRange, Sized}
 use Rattle.rules.specs.Messages.{nodeToEdge, edgeToNode, nodeToLabel, labelToNode, toLabel, deltas, shift}
 use mathlib.Core.Option.{Option, none, some}
 use Rattle.rules.specs.Rounding.{round}
 use Rattle.rules.specs.Run.{Kind, message, rounding, unknown, kindOf, Outcome, refused, done, rounded, checked, effect, legalMessage, legalEdge, legalPosition}
-use Rattle.rules.specs.Calls.{costLimit, lengthsOk, incumbentOk, isMatching}
+use Rattle.rules.specs.Calls.{costLimit, incumbentOk}
 use Rattle.rules.proofs.Bridge.{moved-label, touched-label}
-use Rattle.rules.proofs.Run.{Done, Ranged, effect-later, effect-range}
-use Rattle.rules.proofs.Calls.{is-matching, matching-is}
+use Rattle.rules.proofs.Run.{Done, Ranged, legal-edge-is, legal-position-is, effect-later, effect-range}
+use Rattle.rules.proofs.Calls.{is-matching, incumbent-ok, lengths-ok}
 use Rattle.messages.specs.Lent.{lent, NodeFits, EdgeFits}
 use Rattle.messages.specs.Step.{Settled, settle, settled}
 use Rattle.messages.specs.LabelMessage.{Moved, labelMove, labelMoved, labelGiven}
@@ -35,10 +35,9 @@ use Rattle.messages.specs.EdgeRecord.{EdgeMove, edgeMove, edgeMoved}
 use Rattle.messages.specs.RoundRecord.{IncumbentFits}
 use Rattle.messages.specs.Records.{labelTaken, edgeTaken}
 use Rattle.messages.specs.Turn.{Good}
-use Rattle.messages.proofs.OpenLaws.{lengths-are}
+use Rattle.rules.proofs.Opening.{lengths-are}
 use Rattle.messages.proofs.LentLaws.{LentWell, fit-of}
 use Rattle.messages.proofs.EdgeRecordLaws.{edgeSettled, edge-settled}
-use Rattle.messages.proofs.RecordLaws.{legal-edge-is, legal-position-is}
 
 -- ---- what was lent well is good
 
@@ -75,26 +74,11 @@ module _ {s : List ℕ} {limit : ℕ} {b : Buffers} (g : Good s limit b) where
   proper : Proper I
   proper = sheet.readable s (g .readable) .proper
 
-  lengths : lengthsOk I b ≡ true
-  unfolding lengthsOk
-  lengths =
-      let z = g .sound .sized in
-      rw (eq-eqb (length (b .nodes)) (nodeCells I) (z .nodes), eq-eqb (length (b .labels)) (nodeCells I) (z .labels), eq-eqb (length (b .edges)) (edgeCells I) (z .edges), eq-eqb (length (b .incumbent)) (I .nodeCount) (z .incumbent))
-
   pub fit : limit ≤ costLimit → NodeFits s (b .nodes) × NodeFits s (b .labels) × EdgeFits s (b .edges)
-  fit h = fit-of s limit b h lengths (g .ranged)
+  fit h = fit-of s limit b h (lengths-ok I (g .sound .sized)) (g .ranged)
 
   pub incumbent-fits : IncumbentFits s (b .incumbent)
-  unfolding incumbentOk
-  incumbent-fits = record { size = g .sound .sized .incumbent; ok = ok (g .sound .incumbent) }
-    where
-      ok : (b .incumbent ≡ replicate (I .nodeCount) 255) ⊎ Matching I (b .incumbent) → (every (eqb 255) (b .incumbent) || isMatching I (b .incumbent)) ≡ true
-      ok (inl e) = ap (λ (t : Bool). t || isMatching I (b .incumbent)) (ap (every (eqb 255)) e ∙ every-replicate (eqb 255) (I .nodeCount) 255 refl)
-      ok (inr m) = ap (λ (t : Bool). every (eqb 255) (b .incumbent) || t) (matching-is I m) ∙ or-true (every (eqb 255) (b .incumbent))
-        where
-          or-true : (t : Bool) → (t || true) ≡ true
-          or-true true = refl
-          or-true false = refl
+  incumbent-fits = record { size = g .sound .sized .incumbent; ok = incumbent-ok I (g .sound) }
 
   -- a record that is done leaves what is good good
   pub good-next : (kind : Kind) (u k r : ℕ) {b′ : Buffers} {n : ℕ} → settle b′ n 0 ≡ settled b (effect I limit b kind u k r) → Good s limit b′
@@ -148,7 +132,7 @@ module _ {s : List ℕ} {limit : ℕ} {b : Buffers} (g : Good s limit b) where
   edge-turn (suc (suc (suc n))) u e r h k = absurd (omega arith)
 
   place-in : (u k r : ℕ) → legalPosition I u k r ≡ true → first I u + k < nodeCells I
-  place-in u k r t = let (x, y, z) = legal-position-is I u k r t in omega (arith, row-inside proper y)
+  place-in u k r t = let (x, y, z) = legal-position-is I u k r t in omega (arith, row-inside I y)
 
   label-kind : (turned : Bool) (u k r : ℕ)
       → settled b (cond (legalPosition I u k r) (checked I limit (shift (deltas I (costsOf b) (cond turned labelToNode nodeToLabel) u k r) b)) (refused 12)) ≡ labelSettled (labelTaken I limit (b .nodes) (b .labels) turned u k r)

@@ -1,14 +1,14 @@
 -- The labels that none of the first nodes takes, as a test and as a table of 64 places.
 -- Assumes nothing.
 use mathlib.Core.Path.{_≡_, refl, sym, ap, _∙_}
-use mathlib.Core.Bool.{Bool, true, false, not, _&&_}
+use mathlib.Core.Bool.{Bool, true, false, not, _&&_, and-true, and-false, and-assoc}
 use mathlib.Core.List.{List, [], _∷_, _++_}
 use Prim.Native.Nat.{ℕ, zero, suc, _+_, _<_}
 use native.Mathlib.Numerals.{add-one}
 use native.Mathlib.Omega.{arith}
 use borrow.Author.Tests.{eq-eqb, ne-eqb, eqb-true, eqb-false}
 use lib.Dec.{eqb}
-use lib.ListN.{length, getD, set, replicate, length-set, length-replicate, getD-replicate}
+use lib.ListN.{getD, set, replicate, length-set, length-replicate, getD-replicate}
 use lib.Seq.{ext-getD, getD-set-same, getD-set-other}
 use Rattle.integers.specs.Places.{range, every, tabulate}
 use Rattle.integers.specs.Checks.{below}
@@ -21,22 +21,10 @@ use Rattle.rules.specs.Rounding.{free}
 
 -- ---- a test of the first places
 
-and-one : (a : Bool) → (a && true) ≡ a
-and-one true = refl
-and-one false = refl
-
-and-zero : (a : Bool) → (a && false) ≡ false
-and-zero true = refl
-and-zero false = refl
-
-and-assoc : (a b d : Bool) → (a && (b && d)) ≡ ((a && b) && d)
-and-assoc true b d = refl
-and-assoc false b d = refl
-
 every-last : (t : ℕ → Bool) (l : List ℕ) (k : ℕ) → every t (l ++ k ∷ []) ≡ (every t l && t k)
 unfolding every
-every-last t [] k = and-one (t k)
-every-last t (i ∷ l) k = ap (λ (b : Bool). t i && b) (every-last t l k) ∙ and-assoc (t i) (every t l) (t k)
+every-last t [] k = and-true (t k)
+every-last t (i ∷ l) k = ap (λ (b : Bool). t i && b) (every-last t l k) ∙ sym (and-assoc (t i) (every t l) (t k))
 
 every-first : (t : ℕ → Bool) (n : ℕ) → every t (range 0 n) ≡ below n t
 unfolding every range below
@@ -68,11 +56,11 @@ module _ (I : Instance) where
   -- one node more takes its label
   unused-taken : (x : List ℕ) (u l : ℕ) → I .label (chosen I x u) ≡ l → unused x (u + 1) l ≡ false
   unfolding below
-  unused-taken x u l e = rw (add-one u, eq-eqb (I .label (chosen I x u)) l e) (and-zero (unused x u l))
+  unused-taken x u l e = rw (add-one u, eq-eqb (I .label (chosen I x u)) l e) (and-false (unused x u l))
 
   unused-kept : (x : List ℕ) (u l : ℕ) → (I .label (chosen I x u) ≡ l → ⊥) → unused x (u + 1) l ≡ unused x u l
   unfolding below
-  unused-kept x u l d = rw (add-one u, ne-eqb (I .label (chosen I x u)) l d) (and-one (unused x u l))
+  unused-kept x u l d = rw (add-one u, ne-eqb (I .label (chosen I x u)) l d) (and-true (unused x u l))
 
   -- ---- as a table
 

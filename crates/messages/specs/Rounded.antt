@@ -2,9 +2,9 @@
 use mathlib.Core.Bool.{Bool, true, false, cond}
 use mathlib.Core.List.{List, [], _∷_}
 use mathlib.Core.Option.{Option, none, some}
-use Prim.Native.Nat.{ℕ, _+_, _*_, _≤_, _<_}
+use Prim.Native.Nat.{ℕ, _+_, _*_, _<_}
 use lib.Dec.{ltb, eqb}
-use lib.ListN.{length, getD, replicate}
+use lib.ListN.{getD, replicate}
 use lib.IntN.{ℤ, pos, _+ℤ_}
 use lib.Signed.{ltZ}
 use Rattle.integers.specs.Rows.{part}

@@ -1,9 +1,9 @@
 -- A sweep written into a buffer of its own length: the number and the bytes.
 -- Assumes nothing.
 use mathlib.Core.Path.{_≡_, sym, ap, _∙_}
-use mathlib.Core.Bool.{true, false, cond}
+use mathlib.Core.Bool.{cond}
 use mathlib.Core.List.{List, [], _∷_}
-use Prim.Native.Nat.{ℕ, _+_, _*_, _≤_}
+use Prim.Native.Nat.{ℕ, _+_, _*_}
 use native.Mathlib.Omega.{arith}
 use borrow.Author.Tests.{eq-eqb, ne-eqb, eqb-true, eqb-false}
 use lib.Dec.{eqb}
@@ -13,32 +13,15 @@ use Rattle.integers.proofs.Places.{by-test, if-true, if-false}
 use Rattle.integers.proofs.Checks.{failure-append}
 use Rattle.instance.specs.declared.reading.Layout.{Layout}
 use Rattle.instance.specs.Sheet.{instanceOf, checks, refusalOf}
-use Rattle.instance.specs.Layout.{refusedBy, described, answerOf, layoutOf}
+use Rattle.instance.specs.Layout.{layoutOf}
 use Rattle.instance.proofs.LaidOut.{laid-out, refusal-is}
 use Rattle.instance.proofs.Shown.{checks-numbered}
 use Rattle.schedule.specs.Sweep.{bytes, sweep, known, sweepRecords, sweepLength}
 use Rattle.schedule.specs.Written.{Written, written, sweepOf}
 use Rattle.schedule.proofs.Written.{unread, unknown, swept}
-use Rattle.sweep.specs.Swept.{directionOf, numberOf, sweepBytes}
+use Rattle.sweep.specs.Swept.{numberOf, sweepBytes}
 
 -- ---- the room that a sweep takes
-
--- what reading answered is small
-pub record Few (l : Layout) : Type 0 where
-  pub edges : l .edges ≤ 256
-  pub positions : l .positions ≤ 1_024
-
-none-few : (s : List ℕ) {l : Layout} → l ≡ layoutOf s → eqb (refusalOf s) 0 ≡ false → Few l
-unfolding layoutOf answerOf refusedBy
-none-few s {l} q t =
-    let e : l ≡ refusedBy (refusalOf s) = q ∙ if-false (described s) (refusedBy (refusalOf s)) t in
-    record { edges = omega (arith, ap (λ (x : Layout). x .edges) e); positions = omega (arith, ap (λ (x : Layout). x .positions) e) }
-
-pub few : (s : List ℕ) {l : Layout} → l ≡ layoutOf s → Few l
-few s q =
-    by-test (eqb (refusalOf s) 0)
-    (λ t. let d = laid-out s q (refusal-is s q ∙ eqb-true (refusalOf s) 0 t) in record { edges = d .edgesFew; positions = d .positionsFew })
-    (none-few s q)
 
 pub sized : (s : List ℕ) {l : Layout} {n : ℕ} → l ≡ layoutOf s → n ≡ 5 * (2 * l .edges + l .positions + 1) → refusalOf s ≡ 0 → n ≡ sweepLength (instanceOf s)
 unfolding sweepLength sweepRecords

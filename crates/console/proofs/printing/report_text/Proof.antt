@@ -1,6 +1,6 @@
 -- `report_text` meets its contract, by whether a matching is kept.
 -- Assumes nothing.
-use mathlib.Core.Path.{_≡_, sym, ap, _∙_}
+use mathlib.Core.Path.{sym, ap}
 use native.Mathlib.Omega.{arith}
 use Rattle.integers.proofs.Bits.{same}
 use Rattle.messages.specs.declared.answers.Report.{Report}

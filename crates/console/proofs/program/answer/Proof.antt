@@ -1,7 +1,6 @@
 -- `answer` meets its contract: the parts of the arrays have the sheet's own lengths.
 -- Assumes nothing.
-use mathlib.Core.Path.{_≡_, sym}
-use Prim.Native.Nat.{ℕ}
+use mathlib.Core.Path.{sym}
 use lib.ListN.{take, replicate}
 use lib.IntN.{pos}
 use Rattle.messages.specs.Lent.{lent}

@@ -6,7 +6,7 @@ use Prim.Native.Nat.{ℕ}
 use Rattle.instance.specs.Sheet.{instanceOf, refusalOf}
 use Rattle.rules.specs.Costs.{Buffers, opened}
 use Rattle.rules.specs.Run.{Ran}
-use Rattle.rules.specs.Calls.{Opened, openOf, runOf, costLimit}
+use Rattle.rules.specs.Calls.{Opened, runOf, costLimit}
 use Rattle.messages.specs.Lent.{lent}
 use Rattle.messages.specs.Answers.{ranAs}
 use Rattle.console.proofs.PutLaws.{out-as}

@@ -1,13 +1,12 @@
 -- `put` meets its contract: what is copied so far stands at the place.
 -- Assumes nothing.
-use mathlib.Core.Path.{_≡_, sym, ap, _∙_}
+use mathlib.Core.Path.{_≡_, ap, _∙_}
 use mathlib.Core.List.{List, _++_}
 use Prim.Native.Nat.{ℕ, _+_, _-_, _≤_}
 use native.Mathlib.Numerals.{add-one}
 use native.Mathlib.Omega.{arith}
-use lib.ListN.{length, take, drop, getD, length-set}
+use lib.ListN.{length, take, drop}
 use lib.Seq.{paste, paste-zero, paste-suc, length-paste, take-length}
-use borrow.Author.Needs.{needs}
 use Rattle.console.specs.Output.{written}
 use Rattle.console.proofs.text.put.Statement.{statement}
 use Rattle.console.proofs.text.put.Tie as tie

@@ -1,6 +1,5 @@
 -- `cirbaldu_edge` meets its contract: a span of another length, the edge that is there, and the one that is refused.
 use mathlib.Core.Path.{_≡_, sym, ap, _∙_}
-use mathlib.Core.List.{List}
 use denote.Ref.{now}
 use Rattle.instance.specs.Layout.{EdgeAsked, edgeRefusalOf}
 use Rattle.instance.proofs.Shown.{edge-in, asked-by, unrefused}

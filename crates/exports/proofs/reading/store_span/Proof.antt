@@ -1,7 +1,5 @@
 -- `store_span` meets its contract: the counts are small, so no sum wraps.
-use mathlib.Core.Path.{ap, _∙_}
-use mathlib.Core.List.{List}
-use Prim.Native.Nat.{ℕ}
+use mathlib.Core.Path.{_∙_}
 use native.Mathlib.Omega.{arith}
 use denote.Ref.{now}
 use Rattle.instance.proofs.LaidOut.{LaidOut}

@@ -6,7 +6,7 @@ use borrow.Author.Needs.{needs}
 use lib.ListN.{length, getD}
 use denote.Ref.{now}
 use Rattle.integers.specs.Places.{tabulate}
-use Rattle.messages.proofs.FillLaws.{Filling, fill-none, fill-more, fill-all}
+use Rattle.integers.proofs.Filling.{Filling, fill-none, fill-more, fill-all}
 use Rattle.exports.proofs.StoreLaws.{tabulate-each}
 use Rattle.exports.proofs.storing.copy.Statement.{statement}
 use Rattle.exports.proofs.storing.copy.Tie as tie

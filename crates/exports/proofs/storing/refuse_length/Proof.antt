@@ -1,5 +1,5 @@
 -- `refuse_length` meets its contract.
-use mathlib.Core.Path.{sym, _∙_}
+use mathlib.Core.Path.{sym}
 use borrow.Author.Tests.{eq-eqb, ne-eqb}
 use Rattle.integers.proofs.Places.{if-true, if-false}
 use Rattle.exports.specs.Stored.{unlent}

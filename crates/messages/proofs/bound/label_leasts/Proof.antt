@@ -1,12 +1,10 @@
 -- `label_leasts` meets its contract: the places are gone through, each label's least kept in its place.
-use Prim.Native.Nat.{ℕ, _+_, _-_, _≤_, _<_}
+use Prim.Native.Nat.{_-_, _≤_}
 use mathlib.Core.Path.{_≡_, ap, ap₂, _∙_}
 use Rattle.integers.specs.Least.{minℤ}
 use lib.ListN.{length, getD}
 use lib.IntN.{pos}
 use denote.Ref.{now}
-use mir.Syntax.{w64}
-use mir.Val.{toZ}
 use Rattle.integers.proofs.Bits.{same}
 use Rattle.instance.specs.Sheet.{instanceOf}
 use Rattle.messages.specs.Bounds.{leastLabels}

@@ -1,6 +1,6 @@
 -- `label_sum` meets its contract.
-use Prim.Native.Nat.{ℕ, _-_, _≤_}
-use mathlib.Core.Path.{_≡_, refl, _∙_}
+use Prim.Native.Nat.{_-_, _≤_}
+use mathlib.Core.Path.{refl, _∙_}
 use lib.ListN.{getD}
 use lib.IntN.{pos}
 use denote.Ref.{now}
@@ -10,7 +10,6 @@ use Rattle.integers.proofs.Bits.{same}
 use Rattle.rules.specs.Calls.{costLimit}
 use Rattle.messages.proofs.SumLaws.{Added, added-none, added-fits, added-more, added-all}
 use native.Mathlib.Omega.{arith}
-use borrow.Author.Needs.{needs}
 use Rattle.messages.proofs.bound.label_sum.Statement.{statement}
 use Rattle.messages.proofs.bound.label_sum.Tie as tie
 

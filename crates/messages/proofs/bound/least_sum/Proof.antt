@@ -1,6 +1,6 @@
 -- `least_sum` meets its contract: the parts are the nodes' rows, or the edges' tables.
-use Prim.Native.Nat.{ℕ, _+_, _-_, _≤_, _<_}
-use mathlib.Core.Path.{_≡_, refl, _∙_}
+use Prim.Native.Nat.{_+_, _-_, _≤_}
+use mathlib.Core.Path.{refl, _∙_}
 use lib.ListN.{length}
 use denote.Ref.{now}
 use mir.Syntax.{w64}
@@ -11,7 +11,6 @@ use Rattle.messages.specs.Bounds.{sizeOf}
 use Rattle.messages.proofs.SumLaws.{Parts, Summed, added-all, summed-none, part-inside, part-some, summed-fits, summed-more}
 use Rattle.messages.proofs.BoundLaws.{parts-of, few}
 use native.Mathlib.Omega.{arith}
-use borrow.Author.Needs.{needs}
 use Rattle.messages.proofs.bound.least_sum.Statement.{statement}
 use Rattle.messages.proofs.bound.least_sum.Tie as tie
 

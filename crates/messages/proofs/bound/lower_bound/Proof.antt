@@ -1,20 +1,17 @@
 -- `lower_bound` meets its contract: the three sums are those of the rule, and together they fit.
-use Prim.Native.Nat.{ℕ, _+_, _*_, _≤_}
+use Prim.Native.Nat.{_+_, _*_, _≤_}
 use native.Mathlib.Omega.{arith}
 use mathlib.Core.List.{List}
-use mathlib.Core.Path.{_≡_, sym, ap, ap₂, subst, _∙_}
+use mathlib.Core.Path.{sym, ap, ap₂, subst, _∙_}
 use lib.ListN.{getD}
 use lib.IntN.{ℤ, pos, natAbs, _+ℤ_}
 use denote.Ref.{now}
-use mir.Syntax.{w64}
-use mir.Val.{toZ, ofZ}
 use Rattle.integers.specs.Places.{total}
 use Rattle.integers.proofs.Bits.{same}
-use Rattle.instance.specs.Instance.{Instance, nodeCells}
+use Rattle.instance.specs.Instance.{nodeCells}
 use Rattle.instance.specs.Sheet.{instanceOf}
 use Rattle.rules.specs.Costs.{bound}
 use Rattle.rules.specs.Calls.{costLimit}
-use Rattle.messages.specs.Bounds.{leastLabels}
 use Rattle.messages.proofs.SheetLaws.{proper, nodes-few, edges-few}
 use Rattle.messages.proofs.BoundLaws.{node-parts, edge-parts, by-node, by-edge, by-label, leasts-within, sum-fits, sum-small}
 use borrow.Author.Needs.{needs}

@@ -1,6 +1,6 @@
 -- `size_of` meets its contract: a table has a cell for each position of one end and of the other.
 use Prim.Native.Nat.{ℕ, _*_, _<_}
-use mathlib.Core.Path.{_≡_, sym, ap, ap₂, _∙_}
+use mathlib.Core.Path.{sym, ap, ap₂, _∙_}
 use mathlib.Core.Bool.{Bool}
 use denote.Ref.{now}
 use Rattle.instance.specs.Instance.{Instance, tableSize}
@@ -8,7 +8,6 @@ use Rattle.instance.specs.Sheet.{instanceOf}
 use Rattle.messages.specs.Bounds.{countOf, sizeOf}
 use native.Mathlib.Nat.{mul-le-mul}
 use native.Mathlib.Omega.{arith}
-use borrow.Author.Needs.{needs}
 use Rattle.messages.proofs.bound.size_of.Statement.{statement}
 use Rattle.messages.proofs.bound.size_of.Tie as tie
 

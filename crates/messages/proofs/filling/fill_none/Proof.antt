@@ -5,7 +5,7 @@ use mathlib.Core.Path.{_∙_}
 use borrow.Author.Needs.{needs}
 use lib.ListN.{length}
 use denote.Ref.{now}
-use Rattle.messages.proofs.FillLaws.{Filling, fill-none, fill-more, fill-all, tabulate-same}
+use Rattle.integers.proofs.Filling.{Filling, fill-none, fill-more, fill-all, tabulate-same}
 use Rattle.messages.proofs.filling.fill_none.Statement.{statement}
 use Rattle.messages.proofs.filling.fill_none.Tie as tie
 

@@ -8,7 +8,7 @@ use lib.IntN.{pos}
 use denote.Ref.{now}
 use Rattle.integers.proofs.Bits.{same}
 use Rattle.instance.specs.Bytes.{priceAt}
-use Rattle.messages.proofs.FillLaws.{Filling, fill-none, fill-more, fill-all}
+use Rattle.integers.proofs.Filling.{Filling, fill-none, fill-more, fill-all}
 use Rattle.messages.proofs.filling.fill_prices.Statement.{statement}
 use Rattle.messages.proofs.filling.fill_prices.Tie as tie
 

@@ -6,7 +6,7 @@ use borrow.Author.Needs.{needs}
 use lib.ListN.{length}
 use lib.IntN.{pos}
 use denote.Ref.{now}
-use Rattle.messages.proofs.FillLaws.{Filling, fill-none, fill-more, fill-all, tabulate-same}
+use Rattle.integers.proofs.Filling.{Filling, fill-none, fill-more, fill-all, tabulate-same}
 use Rattle.messages.proofs.filling.fill_zero.Statement.{statement}
 use Rattle.messages.proofs.filling.fill_zero.Tie as tie
 

@@ -1,10 +1,10 @@
 -- `cell_of` meets its contract: the row of the lower end's position, and the higher end's place in it.
-use Prim.Native.Nat.{ℕ, _+_, _*_, _≤_, _<_}
-use mathlib.Core.Path.{_≡_, ap, ap₂, subst, sym, _∙_}
+use Prim.Native.Nat.{ℕ, _+_, _*_, _<_}
+use mathlib.Core.Path.{_≡_, ap₂, subst, sym, _∙_}
 use mathlib.Core.List.{List}
-use lib.ListN.{length, getD}
+use lib.ListN.{getD}
 use denote.Ref.{now}
-use Rattle.instance.specs.Instance.{Instance, edgeCells}
+use Rattle.instance.specs.Instance.{edgeCells}
 use Rattle.instance.specs.Sheet.{instanceOf}
 use Rattle.rules.specs.Costs.{chosenCell}
 use Rattle.rules.proofs.Places.{cell-lt}

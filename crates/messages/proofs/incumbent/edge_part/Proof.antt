@@ -1,6 +1,6 @@
 -- `edge_part` meets its contract: after e turns the sum is that of the first e edges.
-use Prim.Native.Nat.{ℕ, _+_, _-_, _*_, _≤_, _<_}
-use mathlib.Core.Path.{_≡_, sym, ap, _∙_}
+use Prim.Native.Nat.{ℕ, _+_, _-_, _*_, _≤_}
+use mathlib.Core.Path.{_≡_, ap, _∙_}
 use mathlib.Core.List.{List}
 use lib.IntN.{_+ℤ_, natAbs}
 use denote.Ref.{now}
@@ -13,7 +13,6 @@ use Rattle.rules.specs.Costs.{chosenCell}
 use Rattle.messages.proofs.SheetLaws.{whole, proper, edges-few, edge-price-here}
 use Rattle.messages.proofs.SumLaws.{Added, added-none, added-fits, added-more, added-all}
 use native.Mathlib.Omega.{arith}
-use borrow.Author.Needs.{needs}
 use Rattle.messages.proofs.incumbent.edge_part.Statement.{statement}
 use Rattle.messages.proofs.incumbent.edge_part.Tie as tie
 

@@ -2,10 +2,10 @@
 use Prim.Native.Nat.{ℕ, _+_, _-_, _<_}
 use mathlib.Core.Path.{_≡_, ap, _∙_}
 use mathlib.Core.List.{List}
-use lib.ListN.{length, getD}
+use lib.ListN.{getD}
 use denote.Ref.{now}
-use Rattle.instance.specs.Instance.{Instance, nodeCells}
-use Rattle.instance.specs.Sheet.{instanceOf, refusalOf}
+use Rattle.instance.specs.Instance.{nodeCells}
+use Rattle.instance.specs.Sheet.{instanceOf}
 use Rattle.instance.proofs.LaidOut.{positions-few}
 use Rattle.rules.specs.Costs.{chosen}
 use Rattle.messages.proofs.SheetLaws.{proper, nodes-few}

@@ -2,7 +2,7 @@
 use Prim.Native.Nat.{ℕ, _+_, _-_, _*_, _≤_, _<_}
 use mathlib.Core.Path.{_≡_, sym, ap, _∙_}
 use mathlib.Core.List.{List}
-use lib.ListN.{length, getD}
+use lib.ListN.{getD}
 use lib.IntN.{_+ℤ_, natAbs}
 use denote.Ref.{now}
 use mir.Syntax.{w64}
@@ -10,7 +10,7 @@ use mir.Val.{toZ, SFits}
 use mir.Facts.{toZ-ofZ}
 use Rattle.integers.proofs.Bits.{same}
 use Rattle.instance.specs.Bytes.{priceAt}
-use Rattle.instance.specs.Instance.{Instance, nodeCells}
+use Rattle.instance.specs.Instance.{nodeCells}
 use Rattle.instance.specs.Sheet.{instanceOf}
 use Rattle.rules.specs.Costs.{chosen}
 use Rattle.messages.proofs.SheetLaws.{whole, proper, nodes-few, node-price-here}

@@ -1,6 +1,6 @@
 -- `price` meets its contract: the nodes' part and the edges', neither large.
 use Prim.Native.Nat.{ℕ, _≤_}
-use mathlib.Core.Path.{_≡_, sym, ap, ap₂, subst, _∙_}
+use mathlib.Core.Path.{sym, ap, ap₂, subst, _∙_}
 use lib.IntN.{ℤ, _+ℤ_, natAbs}
 use denote.Ref.{now}
 use mir.Syntax.{w64}
@@ -14,7 +14,6 @@ use Rattle.instance.specs.Sheet.{instanceOf}
 use Rattle.rules.specs.Costs.{chosen, chosenCell}
 use Rattle.messages.proofs.IncumbentLaws.{price-parts}
 use native.Mathlib.Omega.{arith}
-use borrow.Author.Needs.{needs}
 use Rattle.messages.proofs.incumbent.price.Statement.{statement}
 use Rattle.messages.proofs.incumbent.price.Tie as tie
 

@@ -1,10 +1,9 @@
 -- `holders_of` meets its contract: the labels stand between the degrees and the node prices.
-use Prim.Native.Nat.{ℕ, _+_, _-_, _*_, _≤_}
+use Prim.Native.Nat.{_+_, _-_}
 use mathlib.Core.Path.{_≡_, subst, sym}
-use mathlib.Core.List.{List}
 use native.Mathlib.Omega.{arith}
 use denote.Ref.{now}
-use Rattle.instance.specs.Instance.{Instance, first, nodeCells}
+use Rattle.instance.specs.Instance.{first, nodeCells}
 use Rattle.instance.specs.Sheet.{instanceOf}
 use Rattle.instance.specs.Readable.{Readable}
 use Rattle.instance.proofs.Indexes.{labels-indexed}

@@ -1,10 +1,9 @@
 -- `lowers_of` meets its contract: the ends stand between the node prices and the edge prices.
-use Prim.Native.Nat.{ℕ, _+_, _-_, _*_, _≤_}
+use Prim.Native.Nat.{_+_, _-_, _*_, _≤_}
 use mathlib.Core.Path.{_≡_, subst, sym}
-use mathlib.Core.List.{List}
 use native.Mathlib.Omega.{arith}
 use denote.Ref.{now}
-use Rattle.instance.specs.Instance.{Instance, first, nodeCells}
+use Rattle.instance.specs.Instance.{first}
 use Rattle.instance.specs.Sheet.{instanceOf}
 use Rattle.instance.specs.Readable.{Readable}
 use Rattle.instance.proofs.Indexes.{highs-indexed}

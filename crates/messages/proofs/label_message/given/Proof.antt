@@ -1,8 +1,8 @@
 -- `given` meets its contract: the node's amount, or the label's turned round.
 use Prim.Native.Nat.{_+_, _^_, _≤_}
-use mathlib.Core.Path.{_≡_, sym, ap, _∙_, subst}
+use mathlib.Core.Path.{sym, ap, _∙_, subst}
 use mathlib.Core.Bool.{Bool}
-use lib.IntN.{ℤ, pos, negℤ, natAbs, _-ℤ_}
+use lib.IntN.{ℤ, pos, natAbs, _-ℤ_}
 use denote.Ref.{now}
 use Rattle.integers.proofs.Bits.{same}
 use Rattle.instance.specs.Sheet.{instanceOf}
@@ -10,7 +10,6 @@ use Rattle.messages.specs.LabelMessage.{labelAmount, labelGiven}
 use Rattle.messages.proofs.RowLaws.{from-zero, zero-fits, neg-fits}
 use Rattle.messages.proofs.LabelMessageLaws.{place-in, node-fits, label-fits}
 use native.Mathlib.Omega.{arith}
-use borrow.Author.Needs.{needs}
 use Rattle.messages.proofs.label_message.given.Statement.{statement}
 use Rattle.messages.proofs.label_message.given.Tie as tie
 

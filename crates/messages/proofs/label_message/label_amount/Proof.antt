@@ -1,6 +1,6 @@
 -- `label_amount` meets its contract: a share of the distance from the least of 0 and the label's other costs.
 use mathlib.Core.Path.{_≡_, ap, ap₂, _∙_}
-use lib.ListN.{length, getD}
+use lib.ListN.{getD}
 use lib.IntN.{ℤ, pos, _-ℤ_}
 use denote.Ref.{now}
 use Rattle.integers.specs.Share.{share}

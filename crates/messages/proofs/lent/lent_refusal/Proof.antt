@@ -1,11 +1,9 @@
 -- `lent_refusal` meets its contract: the checks in their order, each by what its function found.
 use Prim.Native.Nat.{ℕ}
-use native.Mathlib.Omega.{arith}
 use mathlib.Core.Bool.{true}
 use mathlib.Core.List.{List}
 use mathlib.Core.Path.{_≡_, sym, subst, _∙_}
 use denote.Ref.{now}
-use Rattle.instance.specs.declared.reading.Layout.{Layout}
 use Rattle.instance.specs.Sheet.{instanceOf, refusalOf}
 use Rattle.instance.proofs.LaidOut.{refusal-is}
 use Rattle.rules.specs.Costs.{Buffers, inRange}
@@ -13,7 +11,7 @@ use Rattle.rules.specs.Calls.{lengthsOk}
 use Rattle.messages.specs.declared.view.View.{View}
 use Rattle.messages.specs.Lent.{lent}
 use Rattle.messages.specs.Seen.{Seen}
-use Rattle.messages.proofs.OpenLaws.{lengths-by, lengths-are}
+use Rattle.rules.proofs.Opening.{lengths-by, lengths-are}
 use Rattle.messages.proofs.LentLaws.{unrefused, laid, seen-of, lent-unread, lent-unfit, lent-far, lent-unmatched, lent-good, range-by}
 use borrow.Author.Needs.{needs}
 use Rattle.messages.proofs.lent.lent_refusal.Statement.{statement}

@@ -9,13 +9,11 @@ use Rattle.instance.specs.Instance.{Instance}
 use Rattle.instance.specs.Sheet.{instanceOf}
 use Rattle.rules.specs.Costs.{Buffers, Sized}
 use Rattle.rules.specs.Run.{step}
-use Rattle.messages.specs.declared.records.Record.{Record}
 use Rattle.messages.specs.Lent.{lent}
 use Rattle.messages.specs.Records.{headOf}
 use Rattle.messages.specs.Step.{settle, settled, settledBy}
 use Rattle.messages.proofs.RunLaws.{Going, recordOf, going-start, going-sized, going-end, going-room, going-bytes, going-refused, going-few, going-next}
 use native.Mathlib.Omega.{arith}
-use borrow.Author.Needs.{needs}
 use Rattle.messages.proofs.list.run_all.Statement.{statement}
 use Rattle.messages.proofs.list.run_all.Tie as tie
 

@@ -1,5 +1,5 @@
 -- `open` meets its contract: refused, nothing is altered; else the four buffers are filled from the sheet.
-use Prim.Native.Nat.{ℕ, _+_, _*_}
+use Prim.Native.Nat.{ℕ}
 use native.Mathlib.Omega.{arith}
 use mathlib.Core.Bool.{true}
 use mathlib.Core.List.{List}
@@ -14,7 +14,7 @@ use Rattle.rules.specs.Calls.{lengthsOk, costLimit}
 use Rattle.messages.specs.declared.view.View.{View}
 use Rattle.messages.specs.Lent.{lent, opens}
 use Rattle.messages.specs.Seen.{Viewed}
-use Rattle.messages.proofs.OpenLaws.{lengths-by, lengths-are, open-unread, open-unfit, open-fills, filled-opened}
+use Rattle.rules.proofs.Opening.{lengths-by, lengths-are, open-unread, open-unfit, open-fills, filled-opened}
 use Rattle.messages.proofs.LentLaws.{unrefused, laid, viewed-of}
 use borrow.Author.Needs.{needs}
 use Rattle.messages.proofs.opening.open.Statement.{statement}

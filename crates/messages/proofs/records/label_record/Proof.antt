@@ -4,16 +4,16 @@ use mathlib.Core.Path.{_≡_, sym, ap, _∙_}
 use mathlib.Core.Bool.{true}
 use lib.ListN.{getD}
 use denote.Ref.{now}
-use mir.Facts.{toZ-ofZ}
 use Rattle.integers.proofs.Bits.{same}
 use Rattle.instance.specs.Instance.{Instance, first}
 use Rattle.instance.specs.Sheet.{instanceOf}
 use Rattle.rules.specs.Run.{legalPosition}
+use Rattle.rules.proofs.Run.{legal-position-is}
 use Rattle.messages.specs.declared.records.Record.{Record}
 use Rattle.messages.specs.LabelMessage.{labelMoved, labelGiven, PlaceAsked}
 use Rattle.messages.proofs.SheetLaws.{nodes-few, start-is}
 use Rattle.messages.proofs.LabelMessageLaws.{place-in}
-use Rattle.messages.proofs.RecordLaws.{legal-position-is, label-taken, label-refused, place-asked}
+use Rattle.messages.proofs.RecordLaws.{label-taken, label-refused, place-asked}
 use native.Mathlib.Omega.{arith}
 use borrow.Author.Needs.{needs}
 use Rattle.messages.proofs.records.label_record.Statement.{statement}

@@ -1,5 +1,5 @@
 -- `legal_edge` meets its contract, test by test.
-use Prim.Native.Nat.{_≤_, _<_}
+use Prim.Native.Nat.{_<_}
 use mathlib.Core.Path.{_≡_, sym, ap, _∙_}
 use mathlib.Core.Bool.{true}
 use lib.Dec.{eqb}

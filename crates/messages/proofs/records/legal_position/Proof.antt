@@ -1,5 +1,4 @@
 -- `legal_position` meets its contract, test by test.
-use Prim.Native.Nat.{_≤_, _<_}
 use mathlib.Core.Path.{_≡_, sym, ap, _∙_}
 use mathlib.Core.Bool.{true}
 use lib.Dec.{ltb}

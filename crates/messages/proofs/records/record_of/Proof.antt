@@ -1,5 +1,4 @@
 -- `record_of` meets its contract, byte by byte.
-use mathlib.Core.Path.{_≡_}
 use lib.ListN.{getD}
 use denote.Ref.{now}
 use Prim.Native.Nat.{_+_, _*_}

@@ -1,11 +1,11 @@
 -- `tell` meets its contract: what was lent is good, so the bound counts, and one that is kept has a price.
-use Prim.Native.Nat.{ℕ, _≤_}
+use Prim.Native.Nat.{ℕ}
 use mathlib.Core.List.{List}
 use mathlib.Core.Path.{_≡_, sym, ap, ap₂, subst, _∙_}
 use denote.Ref.{now}
 use Rattle.integers.proofs.Bits.{same}
 use Rattle.instance.specs.Sheet.{instanceOf}
-use Rattle.instance.proofs.LaidOut.{LaidOut, refusal-is}
+use Rattle.instance.proofs.LaidOut.{refusal-is}
 use Rattle.rules.specs.Costs.{Buffers}
 use Rattle.rules.specs.Calls as calls
 use Rattle.messages.specs.declared.view.View.{View}

@@ -1,7 +1,6 @@
 -- `names_nothing` meets its contract: each test by its own number.
 use mathlib.Core.Path.{sym}
 use borrow.Author.Tests.{eq-eqb, ne-eqb}
-use borrow.Author.Needs.{needs}
 use Rattle.messages.proofs.round_record.names_nothing.Statement.{statement}
 use Rattle.messages.proofs.round_record.names_nothing.Tie as tie
 

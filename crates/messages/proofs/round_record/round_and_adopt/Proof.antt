@@ -1,10 +1,7 @@
 -- `round_and_adopt` meets its contract: what the rounding's answer says, and what is adopted, by the laws of the record.
 use Prim.Native.Nat.{_≤_}
 use native.Mathlib.Omega.{arith}
-use mathlib.Core.Option.{Option}
-use mathlib.Core.List.{List}
 use mathlib.Core.Path.{sym, _∙_}
-use Prim.Native.Nat.{ℕ}
 use lib.ListN.{length}
 use lib.Seq.{length-take-le}
 use denote.Ref.{now}

@@ -12,7 +12,6 @@ use Rattle.instance.proofs.LaidOut.{positions-few}
 use Rattle.messages.specs.Rounded.{better, chosenFrom}
 use Rattle.messages.proofs.SheetLaws.{proper}
 use Rattle.messages.proofs.ChoiceLaws.{chosen-none, chosen-few, chosen-more}
-use borrow.Author.Needs.{needs}
 use Rattle.messages.proofs.rounding.choose.Statement.{statement}
 use Rattle.messages.proofs.rounding.choose.Tie as tie
 

@@ -3,7 +3,7 @@ use Prim.Native.Nat.{ℕ, _+_, _-_, _*_, _^_, _≤_, _<_}
 use mathlib.Core.Path.{_≡_, sym, ap, ap₂, subst, _∙_}
 use mathlib.Core.List.{List, [], _∷_, _++_, map}
 use native.Mathlib.Omega.{arith}
-use lib.ListN.{length, getD, take, drop, replicate}
+use lib.ListN.{length, getD, take, drop, replicate, length-map}
 use lib.IntN.{ℤ, pos}
 use denote.Ref.{now}
 use Rattle.integers.specs.Places.{range}
@@ -13,8 +13,8 @@ use Rattle.integers.proofs.Rows.{length-part, within-part}
 use Rattle.instance.specs.Instance.{Instance, first}
 use Rattle.instance.specs.Sheet.{instanceOf}
 use Rattle.instance.proofs.LaidOut.{row-inside, positions-few}
+use Rattle.integers.proofs.Places.{length-range}
 use Rattle.index.specs.Index.{many}
-use Rattle.index.proofs.Lists.{length-map, length-range}
 use Rattle.rules.specs.Calls.{costLimit}
 use Rattle.messages.specs.Rounded.{added, rowOf}
 use Rattle.messages.proofs.SheetLaws.{proper, nodes-few, start-is}
@@ -67,7 +67,7 @@ module _ (q : tie.Start Inv-loop μ-loop) where
   begins = start-is s (q .pre .0 .seen .begun) (q .pre .0 .seen .viewed .readable) node
 
   inside : first I u + I .degree u ≤ length nodes
-  inside = omega (arith, row-inside (proper s (q .pre .0 .seen .viewed .readable)) node, q .pre .0 .nodeCosts .size)
+  inside = omega (arith, row-inside I node, q .pre .0 .nodeCosts .size)
 
   short : length nodes ≤ 1_024
   short = omega (arith, positions-few (proper s (q .pre .0 .seen .viewed .readable)), q .pre .0 .nodeCosts .size)
@@ -110,7 +110,7 @@ module _ (t : tie.At-loop Inv-loop μ-loop) where
   small =
       subst (Within (2 ^ 50)) (sym (t .loop .inv .2))
       (keys-small (I start) (nodes start) (edges start) (x start) (u start) (start .pre .0 .nodeCosts .range) (start .pre .0 .edgeCosts .range) sofar
-      (omega (arith, length-map (λ j. getD (lowers start) j 0) (range (65 * u start + 1) n), length-range (65 * u start + 1) n, t .loop .inv .0, t .loop .inv .1, row-few start)))
+      (omega (arith, length-map (range (65 * u start + 1) n) (λ j. getD (lowers start) j 0), length-range (65 * u start + 1) n, t .loop .inv .0, t .loop .inv .1, row-few start)))
 
 -- an edge of the row
 module _ (p : tie.After-number2 Inv-loop μ-loop) where

@@ -46,7 +46,7 @@ module _ (t : tie.In-loop Inv-loop μ-loop) where
   begins = start-is (now (start .args .sheet)) (start .pre .seen .begun) (start .pre .seen .viewed .readable) node
 
   row : first I u + I .degree u ≤ nodeCells I
-  row = row-inside good node
+  row = row-inside I node
 
 -- where the choice is made: the choice of the rules, as a number
 module _ (p : tie.After-choose Inv-loop μ-loop) where

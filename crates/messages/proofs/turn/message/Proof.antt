@@ -1,7 +1,5 @@
 -- `message` meets its contract: kinds 1 and 2 by one function, 3 and 4 by the other.
-use Prim.Native.Nat.{_≤_, _<_}
-use mathlib.Core.List.{List}
-use mathlib.Core.Path.{_≡_, sym, ap, _∙_}
+use mathlib.Core.Path.{sym, ap, _∙_}
 use denote.Ref.{now}
 use Rattle.messages.specs.Lent.{lent}
 use Rattle.messages.specs.LabelMessage.{Moved}

@@ -1,7 +1,6 @@
 -- `one_record` meets its contract, kind by kind.
-use Prim.Native.Nat.{ℕ, _≤_, _<_}
 use mathlib.Core.Logic.{inl, inr}
-use mathlib.Core.Path.{_≡_, sym, ap, ap₂, _∙_}
+use mathlib.Core.Path.{sym, ap, ap₂, _∙_}
 use denote.Ref.{now}
 use Rattle.instance.specs.Instance.{Instance}
 use Rattle.instance.specs.Sheet.{instanceOf}

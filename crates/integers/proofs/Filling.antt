@@ -2,20 +2,15 @@
 -- Assumes nothing.
 use mathlib.Core.Path.{_≡_, refl, sym, ap, _∙_}
 use mathlib.Core.List.{List, [], _∷_, _++_, append-assoc, append-nil}
-use Prim.Native.Nat.{ℕ, suc, _+_, _%_, _^_, _≤_, _<_}
+use Prim.Native.Nat.{ℕ, suc, _+_, _≤_, _<_}
 use native.Mathlib.Numerals.{add-one}
 use native.Mathlib.Omega.{arith}
 use borrow.Author.Tests.{ltb-true, ltb-false}
 use lib.Dec.{ltb}
 use lib.ListN.{length, getD, set, drop, replicate, List·getD-append, length-append, length-set, length-replicate, getD-replicate, drop-of-length-le}
 use lib.Seq.{drop-cons, set-at, getD-at, ext-getD}
-use lib.IntN.{pos, _-ℤ_}
-use mir.Syntax.{w32, w64}
-use mir.Val.{SFits, toZ}
-use Rattle.integers.proofs.Parts.{linear, sub, parts}
-use Rattle.integers.proofs.Bits.{low, high}
 use Rattle.integers.specs.Places.{range, tabulate}
 use Rattle.integers.proofs.Places.{by-test, length-tabulate, getD-tabulate}
 
 module _ {A : Type 0} (f : ℕ → A) where
   abbrev pub filledTo : List A → ℕ → List A
@@ -80,22 +75,3 @@ module _ {A : Type 0} (f : ℕ → A) where
 
   pub fill-all : {l₀ l : List A} {i : ℕ} → Filling f l₀ l i → length l₀ ≤ i → l ≡ tabulate (length l₀) f
   fill-all {l₀} {l} {i} g h = g .content ∙ filled-all f l₀ i (g .within) h
-
--- ---- 32 bits as a signed number: half the range more, and less again
-
-pub turned-small : (n : ℕ) → (n + 2 ^ 31) % 2 ^ 32 < 2 ^ 32
-turned-small n = omega arith
-
-pub turned-fits : (n : ℕ) → SFits w64 (pos ((n + 2 ^ 31) % 2 ^ 32) -ℤ pos (2 ^ 31))
-turned-fits n = let m = (n + 2 ^ 31) % 2 ^ 32 in let h = turned-small n in omega (linear, sub (pos m) (pos (2 ^ 31)))
-
-pub turned-back : (n : ℕ) → n < 2 ^ 32 → pos ((n + 2 ^ 31) % 2 ^ 32) -ℤ pos (2 ^ 31) ≡ toZ w32 n
-turned-back n h =
-    let m = (n + 2 ^ 31) % 2 ^ 32 in
-    by-test (ltb n (2 ^ 31))
-    (λ t. let o : n < 2 ^ 31 = ltb-true n (2 ^ 31) t in
-    let e : m ≡ n + 2 ^ 31 = omega arith in
-    omega (linear, sub (pos m) (pos (2 ^ 31)), parts (low w32 n o)))
-    (λ t. let o : 2 ^ 31 ≤ n = ltb-false n (2 ^ 31) t in
-    let e : m + 2 ^ 31 ≡ n = omega arith in
-    omega (linear, sub (pos m) (pos (2 ^ 31)), sub (pos n) (pos (2 ^ 32)), parts (high w32 n o h)))

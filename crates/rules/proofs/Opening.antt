@@ -1,4 +1,4 @@
--- What an opening answers and leaves, case by case.
+-- What an opening answers and leaves, case by case, for the code and whoever calls it.
 -- Assumes nothing.
 use mathlib.Core.Path.{_≡_, sym, ap, _∙_}
 use mathlib.Core.Bool.{true, false, cond, _&&_}
@@ -19,9 +19,8 @@ use Rattle.instance.specs.Sheet.{instanceOf, nodePricesAt, edgePricesAt, checks
 use Rattle.instance.specs.declared.reading.Layout.{Layout}
 use Rattle.instance.proofs.LaidOut.{LaidOut}
 use Rattle.instance.proofs.Shown.{checks-numbered}
 use Rattle.rules.specs.Costs.{Buffers, opened}
 use Rattle.rules.specs.Calls.{lengthsOk, openRefusal, openOf}
-use Rattle.messages.specs.Lent.{opens}
 
 module _ (s : List ℕ) (b : Buffers) where
   abbrev I : Instance
@@ -32,17 +31,17 @@ module _ (s : List ℕ) (b : Buffers) where
   by-checks = failure-append (checks s) ((lengthsOk I b, 8) ∷ []) (checks-numbered s)
 
   -- refused with k: nothing is altered
-  left-alone : (k : ℕ) → openRefusal s b ≡ k → (k ≡ 0 → ⊥) → opens b k ≡ openOf s b
+  left-alone : (k : ℕ) → openRefusal s b ≡ k → (k ≡ 0 → ⊥) → record { buffers = b; refusal = k } ≡ openOf s b
   unfolding openOf
   left-alone k e h = sym (ap (λ (k : ℕ). record { buffers = cond (eqb k 0) (opened I) b; refusal = k }) e ∙ (λ t. record { buffers = if-false (opened I) b (ne-eqb k 0 h) t; refusal = k }))
 
-  pub open-unread : (refusalOf s ≡ 0 → ⊥) → opens b (refusalOf s) ≡ openOf s b
+  pub open-unread : (refusalOf s ≡ 0 → ⊥) → record { buffers = b; refusal = refusalOf s } ≡ openOf s b
   open-unread h = left-alone (refusalOf s) (by-checks ∙ if-false _ (refusalOf s) (ne-eqb (refusalOf s) 0 h)) h
 
-  pub open-unfit : refusalOf s ≡ 0 → lengthsOk I b ≡ false → opens b 8 ≡ openOf s b
+  pub open-unfit : refusalOf s ≡ 0 → lengthsOk I b ≡ false → record { buffers = b; refusal = 8 } ≡ openOf s b
   open-unfit e h = left-alone 8 (by-checks ∙ if-true _ (refusalOf s) (eq-eqb (refusalOf s) 0 e) ∙ if-false 0 8 h) (λ z. omega arith)
 
-  pub open-fills : refusalOf s ≡ 0 → lengthsOk I b ≡ true → opens (opened I) 0 ≡ openOf s b
+  pub open-fills : refusalOf s ≡ 0 → lengthsOk I b ≡ true → record { buffers = opened I; refusal = 0 } ≡ openOf s b
   unfolding openOf
   open-fills e h =
       let k : openRefusal s b ≡ 0 = by-checks ∙ if-true _ (refusalOf s) (eq-eqb (refusalOf s) 0 e) ∙ if-true 0 8 h in
