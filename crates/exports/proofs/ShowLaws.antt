@@ -4,8 +4,11 @@ use mathlib.Core.Path.{_≡_, sym, ap, ap₂, _∙_}
 use mathlib.Core.List.{List, [], _∷_}
 use Prim.Native.Nat.{ℕ, _+_, _-_, _*_, _≤_, _<_}
 use native.Mathlib.Omega.{arith}
+use borrow.Author.Tests.{ltb-true, ltb-false}
+use lib.Dec.{ltb}
 use lib.ListN.{length, getD, drop, length-drop}
 use lib.Seq.{length-take-le}
+use Rattle.integers.proofs.Places.{by-cond}
 use Rattle.integers.proofs.Totals.{offset-more}
 use Rattle.instance.specs.declared.reading.Layout.{Layout}
 use Rattle.instance.specs.Instance.{Instance, first, tableSize, table}
@@ -14,7 +17,7 @@ use Rattle.instance.specs.Layout.{layoutOf, edgeRefusalOf, edgeFrom, edgeBytes,
 use Rattle.instance.proofs.LaidOut.{LaidOut, laid-out, table-inside, table-few}
 use Rattle.instance.proofs.Shown.{laid, there, unrefused, edge-inside, edge-shown, edge-placed, edge-hidden, edge-unplaced}
 use Rattle.exports.specs.Stored.{answered, unlent}
-use Rattle.exports.specs.Reading.{spanOf, shownIn}
+use Rattle.exports.specs.Reading.{tableIn, spanOf, shownIn}
 use Rattle.exports.proofs.StoreLaws.{lent-well, lent-ill}
 
 abbrev I : List ℕ → Instance
@@ -26,17 +29,11 @@ module _ (s : List ℕ) {l : Layout} {e : ℕ} (q : (l ≡ layoutOf s) × (l .re
   laid-well : LaidOut s l
   laid-well = laid-out s (q .0) (q .1)
 
-  pub edges-few : l .edges ≤ 256
-  edges-few = laid-well .edgesFew
-
-  pub table-there : e < l .edges → getD (l .tables) e 0 ≡ table (I s) e
-  table-there h = let n = laid-well .edges in laid-well .tables e (omega arith)
-
-  pub table-past : l .edges ≤ e → l .cells ≡ table (I s) e
-  table-past h =
-      let n = laid-well .edges in
-      let k : I s .edgeCount ≡ e = omega (arith, q .2) in
-      laid-well .cells ∙ ap (table (I s)) k
+  pub table-in : tableIn l e ≡ table (I s) e
+  table-in =
+      by-cond (λ (k : ℕ). k ≡ table (I s) e) (ltb e (l .edges))
+      (λ t. laid-well .tables e (omega (arith, ltb-true e (l .edges) t, laid-well .edges)))
+      (λ t. let k : I s .edgeCount ≡ e = omega (arith, q .2, ltb-false e (l .edges) t, laid-well .edges) in laid-well .cells ∙ ap (table (I s)) k)
 
 -- ---- what is shown of an edge
 

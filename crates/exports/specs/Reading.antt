@@ -1,7 +1,9 @@
 -- The numbers of a reading, and the stretch of the sheet that holds the prices of an edge.
+use mathlib.Core.Bool.{cond}
 use mathlib.Core.List.{List, [], _∷_, _++_}
 use Prim.Native.Nat.{ℕ}
-use lib.ListN.{length}
+use lib.Dec.{ltb}
+use lib.ListN.{length, getD}
 use Rattle.instance.specs.declared.reading.Layout.{Layout}
 use Rattle.instance.specs.Sheet.{refusalOf}
 use Rattle.instance.specs.Layout.{layoutOf, edgeRefusalOf, edgePlaceOf, edgePricesOf}
@@ -18,6 +20,10 @@ numbersOf l = countsOf l ++ (l .starts ++ l .tables)
 -- what reading answers, and leaves in the lent buffer: all of it but the refusal is 0 when the sheet is refused
 unfoldable pub readIn : List ℕ → List ℕ → Answered ℕ
 readIn s lent = answeredIn 326 (refusalOf s) (answered (refusalOf s) (numbersOf (layoutOf s))) lent
+
+-- where the table of an edge begins, by what reading answered, counted in cells; past the last edge, where all tables end
+abbrev pub tableIn : Layout → ℕ → ℕ
+tableIn l e = cond (ltb e (l .edges)) (getD (l .tables) e 0) (l .cells)
 
 -- where the shown part begins in the sheet, and how many bytes it has: 0 and 0 where the edge is not shown
 unfoldable pub spanOf : List ℕ → ℕ → List ℕ

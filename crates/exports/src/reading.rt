@@ -9,11 +9,9 @@ use instance::refusal::NONE;
 ghost use mathlib.Core.Path.{_≡_};
 ghost use Prim.Native.Nat.{_≤_};
 ghost use lib.ListN.{length};
-ghost use Rattle.instance.specs.Instance.{table};
-ghost use Rattle.instance.specs.Sheet.{instanceOf};
-ghost use Rattle.instance.specs.Layout.{layoutOf, EdgeAsked};
+ghost use Rattle.instance.specs.Layout.{EdgeAsked};
 ghost use Rattle.exports.specs.Stored.{answered};
-ghost use Rattle.exports.specs.Reading.{countsOf, readIn, spanOf, shownIn};
+ghost use Rattle.exports.specs.Reading.{countsOf, readIn, tableIn, spanOf, shownIn};
 
 // The refusal and the five counts.
 fn copy_counts(layout: Layout, lent: &mut [u64])
@@ -50,9 +48,9 @@ pub extern "C" fn cirbaldu_read(sheet: &[u8], answer: &mut [u64]) -> u8
 }
 
 // Where the table of an edge begins, counted in cells; past the last edge, where all tables end.
-fn table_at(sheet: &[u8], layout: Layout, edge: usize) -> usize
-    requires { ⌜ (layout ≡ layoutOf (now sheet)) × (layout .refusal ≡ 0) × (edge ≤ layout .edges) ⌝ }
-    ensures { λ r. ⌜ r ≡ table (instanceOf (now (sheet .entry))) edge ⌝ }
+fn table_at(layout: Layout, edge: usize) -> usize
+    requires { ⌜ layout .edges ≤ 256 ⌝ }
+    ensures { λ r. ⌜ r ≡ tableIn layout edge ⌝ }
 {
     if edge < layout.edges {
         let tables = layout.tables;
@@ -69,8 +67,8 @@ fn store_span(sheet: &[u8], layout: Layout, edge: usize, span: &mut [u64])
     ensures { λ _. ⌜ now (span .exit) ≡ spanOf (now (sheet .entry)) edge ⌝ }
 {
     let prices = layout.nodes + 5 * layout.positions + 2 * layout.edges;
-    let from = table_at(sheet, layout, edge);
-    let to = table_at(sheet, layout, edge + 1);
+    let from = table_at(layout, edge);
+    let to = table_at(layout, edge + 1);
     let place = [prices + 4 * from, 4 * (to - from)];
     copy(&place, span);
 }

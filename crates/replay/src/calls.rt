@@ -47,17 +47,17 @@ fn moved(
     nodes: &mut [i64],
     labels: &mut [i64],
     edges: &mut [i64],
-    kept: &mut [u8],
+    incumbent: &mut [u8],
 ) -> Answer {
     if opens {
-        let refusal = messages::open(sheet, nodes, labels, edges, kept);
+        let refusal = messages::open(sheet, nodes, labels, edges, incumbent);
         return Answer {
             done: 0,
             stuck: 0,
             refusal,
         };
     }
-    messages::run(sheet, records, nodes, labels, edges, kept)
+    messages::run(sheet, records, nodes, labels, edges, incumbent)
 }
 
 // The same on as much of each buffer as is lent.
@@ -68,7 +68,7 @@ fn moved_lent(
     nodes: &mut [i64],
     labels: &mut [i64],
     edges: &mut [i64],
-    kept: &mut [u8],
+    incumbent: &mut [u8],
     n: usize,
     l: usize,
     e: usize,
@@ -77,7 +77,7 @@ fn moved_lent(
     let n = at_most(n, nodes.len());
     let l = at_most(l, labels.len());
     let e = at_most(e, edges.len());
-    let k = at_most(k, kept.len());
+    let k = at_most(k, incumbent.len());
     moved(
         opens,
         sheet,
@@ -85,7 +85,7 @@ fn moved_lent(
         &mut nodes[..n],
         &mut labels[..l],
         &mut edges[..e],
-        &mut kept[..k],
+        &mut incumbent[..k],
     )
 }
 
@@ -94,11 +94,11 @@ fn make_move(opens: bool, sheet: &[u8], records: &[u8], mut state: State) -> Ran
     let mut nodes = state.nodes;
     let mut labels = state.labels;
     let mut edges = state.edges;
-    let mut kept = state.kept;
+    let mut incumbent = state.incumbent;
     let n = state.node_count;
     let l = state.label_count;
     let e = state.edge_count;
-    let k = state.kept_count;
+    let k = state.incumbent_count;
     let answer = moved_lent(
         opens,
         sheet,
@@ -106,7 +106,7 @@ fn make_move(opens: bool, sheet: &[u8], records: &[u8], mut state: State) -> Ran
         &mut nodes,
         &mut labels,
         &mut edges,
-        &mut kept,
+        &mut incumbent,
         n,
         l,
         e,
@@ -115,7 +115,7 @@ fn make_move(opens: bool, sheet: &[u8], records: &[u8], mut state: State) -> Ran
     state.nodes = nodes;
     state.labels = labels;
     state.edges = edges;
-    state.kept = kept;
+    state.incumbent = incumbent;
     Ran { state, answer }
 }
 
@@ -164,7 +164,7 @@ fn report_lent(
     nodes: &[i64],
     labels: &[i64],
     edges: &[i64],
-    kept: &[u8],
+    incumbent: &[u8],
     n: usize,
     l: usize,
     e: usize,
@@ -173,20 +173,26 @@ fn report_lent(
     let n = at_most(n, nodes.len());
     let l = at_most(l, labels.len());
     let e = at_most(e, edges.len());
-    let k = at_most(k, kept.len());
-    messages::report(sheet, &nodes[..n], &labels[..l], &edges[..e], &kept[..k])
+    let k = at_most(k, incumbent.len());
+    messages::report(
+        sheet,
+        &nodes[..n],
+        &labels[..l],
+        &edges[..e],
+        &incumbent[..k],
+    )
 }
 
 fn make_report(sheet: &[u8], state: State) -> Report {
     let nodes = state.nodes;
     let labels = state.labels;
     let edges = state.edges;
-    let kept = state.kept;
+    let incumbent = state.incumbent;
     let n = state.node_count;
     let l = state.label_count;
     let e = state.edge_count;
-    let k = state.kept_count;
-    report_lent(sheet, &nodes, &labels, &edges, &kept, n, l, e, k)
+    let k = state.incumbent_count;
+    report_lent(sheet, &nodes, &labels, &edges, &incumbent, n, l, e, k)
 }
 
 // The five numbers of a report: the refusal, whether one is kept, the bound, the cost and the gap.

@@ -6,10 +6,10 @@ use crate::file::signed;
 use crate::file::word_at;
 ghost use Prim.Native.Nat.{_<_};
 
-// The room for costs, and for kept bytes.
+// The room for costs, and for the positions of an incumbent.
 const COSTS: usize = 192;
 
-const KEPT: usize = 64;
+const POSITIONS: usize = 64;
 
 // The numbers of the buffers in the file.
 const NODES: u8 = 0;
@@ -22,11 +22,11 @@ pub struct State {
     pub nodes: [i64; 192],
     pub labels: [i64; 192],
     pub edges: [i64; 192],
-    pub kept: [u8; 64],
+    pub incumbent: [u8; 64],
     pub node_count: usize,
     pub label_count: usize,
     pub edge_count: usize,
-    pub kept_count: usize,
+    pub incumbent_count: usize,
     // whether there was room for every length so far
     pub fits: bool,
 }
@@ -48,10 +48,10 @@ fn prior_costs(count: usize) -> [i64; 192] {
     cells
 }
 
-fn prior_kept(count: usize) -> [u8; 64] {
+fn prior_incumbent(count: usize) -> [u8; 64] {
     let mut cells: [u8; 64] = [0; 64];
     let mut i = 0;
-    while i < count && i < KEPT {
+    while i < count && i < POSITIONS {
         cells[i] = (i % 3) as u8;
         i += 1;
     }
@@ -63,22 +63,22 @@ pub fn begun(file: &[u8], at: usize) -> State {
     let node_count = word_at(file, after(file, at, 1)) as usize;
     let label_count = word_at(file, after(file, at, 5)) as usize;
     let edge_count = word_at(file, after(file, at, 9)) as usize;
-    let kept_count = word_at(file, after(file, at, 13)) as usize;
+    let incumbent_count = word_at(file, after(file, at, 13)) as usize;
     let fits = node_count <= COSTS
         && label_count <= COSTS
         && edge_count <= COSTS
-        && kept_count <= KEPT;
+        && incumbent_count <= POSITIONS;
     let zeros: [i64; 192] = [0; 192];
     let bytes: [u8; 64] = [0; 64];
     let blank = State {
         nodes: zeros,
         labels: zeros,
         edges: zeros,
-        kept: bytes,
+        incumbent: bytes,
         node_count,
         label_count,
         edge_count,
-        kept_count,
+        incumbent_count,
         fits,
     };
     if byte_at(file, at) == 0 {
@@ -91,11 +91,11 @@ fn with_prior(mut state: State) -> State {
     let nodes = prior_costs(state.node_count);
     let labels = prior_costs(state.label_count);
     let edges = prior_costs(state.edge_count);
-    let kept = prior_kept(state.kept_count);
+    let incumbent = prior_incumbent(state.incumbent_count);
     state.nodes = nodes;
     state.labels = labels;
     state.edges = edges;
-    state.kept = kept;
+    state.incumbent = incumbent;
     state
 }
 
@@ -109,9 +109,9 @@ fn costs_cleared(mut cells: [i64; 192], from: usize) -> [i64; 192] {
     cells
 }
 
-fn kept_cleared(mut cells: [u8; 64], from: usize) -> [u8; 64] {
+fn incumbent_cleared(mut cells: [u8; 64], from: usize) -> [u8; 64] {
     let mut i = from;
-    while i < KEPT {
+    while i < POSITIONS {
         cells[i] = 0;
         i += 1;
     }
@@ -144,12 +144,12 @@ fn resize_costs(mut state: State, buffer: u8, length: usize) -> State {
     state
 }
 
-fn resize_kept(mut state: State, length: usize) -> State {
-    let kept = state.kept;
-    let kept = kept_cleared(kept, state.kept_count);
-    state.kept = kept;
-    state.kept_count = length;
-    state.fits = state.fits && length <= KEPT;
+fn resize_incumbent(mut state: State, length: usize) -> State {
+    let incumbent = state.incumbent;
+    let incumbent = incumbent_cleared(incumbent, state.incumbent_count);
+    state.incumbent = incumbent;
+    state.incumbent_count = length;
+    state.fits = state.fits && length <= POSITIONS;
     state
 }
 
@@ -160,7 +160,7 @@ pub fn resized(file: &[u8], at: usize, state: State) -> State {
     if buffer <= EDGES {
         return resize_costs(state, buffer, length);
     }
-    resize_kept(state, length)
+    resize_incumbent(state, length)
 }
 
 fn poke_costs(mut state: State, buffer: u8, place: usize, value: i64) -> State {
@@ -181,11 +181,11 @@ fn poke_costs(mut state: State, buffer: u8, place: usize, value: i64) -> State {
     state
 }
 
-fn poke_kept(mut state: State, place: usize, value: u8) -> State {
-    if KEPT <= place {
+fn poke_incumbent(mut state: State, place: usize, value: u8) -> State {
+    if POSITIONS <= place {
         return state;
     }
-    state.kept[place] = value;
+    state.incumbent[place] = value;
     state
 }
 
@@ -197,5 +197,5 @@ pub fn poked(file: &[u8], at: usize, state: State) -> State {
     if buffer <= EDGES {
         return poke_costs(state, buffer, place, signed(number_at(file, value)));
     }
-    poke_kept(state, place, byte_at(file, value))
+    poke_incumbent(state, place, byte_at(file, value))
 }

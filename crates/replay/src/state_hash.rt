@@ -28,14 +28,14 @@ fn add_costs(hash: u64, costs: &[i64; 192], count: usize) -> u64
     h
 }
 
-fn add_kept(hash: u64, kept: &[u8; 64], count: usize) -> u64
+fn add_incumbent(hash: u64, incumbent: &[u8; 64], count: usize) -> u64
     requires { ⌜ hash < 4294967291 ⌝ }
     ensures { λ r. ⌜ r < 4294967291 ⌝ }
 {
     let mut h = hash;
     let mut i = 0;
     while i < count && i < 64 {
-        h = step(h, wide(kept[i]));
+        h = step(h, wide(incumbent[i]));
         i += 1;
     }
     h
@@ -49,9 +49,9 @@ pub fn of(state: State) -> u64 {
     let nodes = state.nodes;
     let labels = state.labels;
     let edges = state.edges;
-    let kept = state.kept;
+    let incumbent = state.incumbent;
     let h = add_costs(1, &nodes, state.node_count);
     let h = add_costs(h, &labels, state.label_count);
     let h = add_costs(h, &edges, state.edge_count);
-    add_kept(h, &kept, state.kept_count)
+    add_incumbent(h, &incumbent, state.incumbent_count)
 }

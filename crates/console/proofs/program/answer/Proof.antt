@@ -3,8 +3,9 @@
 use mathlib.Core.Path.{sym}
 use lib.ListN.{take, replicate}
 use lib.IntN.{pos}
+use Rattle.instance.proofs.LaidOut.{Few, few}
 use Rattle.messages.specs.Lent.{lent}
-use Rattle.console.proofs.ProgramLaws.{Few, few, part-length, parts-sized}
+use Rattle.console.proofs.ProgramLaws.{part-length, parts-sized}
 use Rattle.console.proofs.program.answer.Statement.{statement}
 use Rattle.console.proofs.program.answer.Tie as tie
 use Rattle.console.proofs.program.answer_in.Reads as answer-in-reads

@@ -1,25 +1,22 @@
 -- `table_at` meets its contract.
-use Prim.Native.Nat.{_≤_}
+use mathlib.Core.Path.{sym}
 use native.Mathlib.Omega.{arith}
-use denote.Ref.{now}
-use Rattle.exports.proofs.ShowLaws.{edges-few, table-there, table-past}
+use borrow.Author.Tests.{lt-ltb, le-ltb}
+use Rattle.integers.proofs.Places.{if-true, if-false}
 use Rattle.exports.proofs.reading.table_at.Statement.{statement}
 use Rattle.exports.proofs.reading.table_at.Tie as tie
 
-few : (c : tie.After-tables) → c .before .before .before .args .layout .edges ≤ 256
-few c = let q = c .before .before .before in edges-few (now (q .args .sheet)) (q .pre)
-
 mul-result : tie.Need-mul-result
-mul-result c = omega (arith, few c)
+mul-result c = omega (arith, c .before .before .before .pre)
 
 array-read-result : tie.Need-array-read-result
-array-read-result c = omega (arith, few c)
+array-read-result c = omega (arith, c .before .before .before .pre)
 
 returns : tie.Need-returns
-returns c = let q = c .before .before .before in table-there (now (q .args .sheet)) (q .pre) (c .before .if1 .taken)
+returns c = sym (if-true _ _ (lt-ltb _ _ (c .before .if1 .taken)))
 
 returns-2 : tie.Need-returns-2
-returns-2 c = let q = c .before .before in table-past (now (q .args .sheet)) (q .pre) (c .if1 .left)
+returns-2 c = sym (if-false _ _ (le-ltb _ _ (c .if1 .left)))
 
 pub table-at-spec : {M : Type 1} → statement M
 table-at-spec = tie.close (tie.spec mul-result array-read-result returns returns-2)

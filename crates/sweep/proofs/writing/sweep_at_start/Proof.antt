@@ -7,7 +7,8 @@ use native.Mathlib.Omega.{arith}
 use lib.ListN.{length, take, drop, length-append}
 use lib.Seq.{length-take-le, take-at}
 use denote.Ref.{now}
-use Rattle.sweep.proofs.SweepLaws.{Few, few, sized, Left, left, written-all, written-none}
+use Rattle.instance.proofs.LaidOut.{Few, few}
+use Rattle.sweep.proofs.SweepLaws.{sized, Left, left, written-all, written-none}
 use borrow.Author.Needs.{needs}
 use Rattle.sweep.proofs.writing.sweep_at_start.Statement.{statement}
 use Rattle.sweep.proofs.writing.sweep_at_start.Tie as tie

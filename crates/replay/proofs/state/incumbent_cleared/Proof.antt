@@ -1,8 +1,8 @@
--- `kept_cleared` is safe and ends.
+-- `incumbent_cleared` is safe and ends.
 use Prim.Native.Nat.{_-_}
 use borrow.Author.Needs.{needs}
-use Rattle.replay.proofs.state.kept_cleared.Statement.{statement}
-use Rattle.replay.proofs.state.kept_cleared.Tie as tie
+use Rattle.replay.proofs.state.incumbent_cleared.Statement.{statement}
+use Rattle.replay.proofs.state.incumbent_cleared.Tie as tie
 
 abbrev Inv-loop : tie.InvT-loop
 Inv-loop from cells₀ i₀ cells i = Unit {0}
@@ -28,7 +28,7 @@ loop-again c = search needs
 returns : tie.Need-returns Inv-loop μ-loop
 returns c = search needs
 
-pub kept-cleared-spec : {M : Type 1} → statement M
-kept-cleared-spec =
+pub incumbent-cleared-spec : {M : Type 1} → statement M
+incumbent-cleared-spec =
     tie.close
     (tie.spec Inv-loop μ-loop loop-holds array-write-cells add-i loop-less loop-again returns)

@@ -1,14 +1,14 @@
--- `add_kept` meets its contract: the hash stays below the modulus.
+-- `add_incumbent` meets its contract: the hash stays below the modulus.
 use Prim.Native.Nat.{_-_, _<_}
 use borrow.Author.Needs.{needs}
-use Rattle.replay.proofs.state_hash.add_kept.Statement.{statement}
-use Rattle.replay.proofs.state_hash.add_kept.Tie as tie
+use Rattle.replay.proofs.state_hash.add_incumbent.Statement.{statement}
+use Rattle.replay.proofs.state_hash.add_incumbent.Tie as tie
 
 abbrev Inv-loop : tie.InvT-loop
-Inv-loop hash kept count h₀ i₀ h i = h < 4294967291
+Inv-loop hash incumbent count h₀ i₀ h i = h < 4294967291
 
 abbrev μ-loop : tie.MeasureT-loop
-μ-loop hash kept count h₀ i₀ h i = count - i
+μ-loop hash incumbent count h₀ i₀ h i = count - i
 
 loop-holds : tie.Need-loop-holds Inv-loop μ-loop
 loop-holds c = search needs
@@ -37,8 +37,8 @@ returns c = search needs
 returns-2 : tie.Need-returns-2 Inv-loop μ-loop
 returns-2 c = search needs
 
-pub add-kept-spec : {M : Type 1} → statement M
-add-kept-spec =
+pub add-incumbent-spec : {M : Type 1} → statement M
+add-incumbent-spec =
     tie.close
     (tie.spec
     Inv-loop

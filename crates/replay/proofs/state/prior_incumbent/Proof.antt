@@ -1,8 +1,8 @@
--- `prior_kept` is safe and ends.
+-- `prior_incumbent` is safe and ends.
 use Prim.Native.Nat.{_-_}
 use borrow.Author.Needs.{needs}
-use Rattle.replay.proofs.state.prior_kept.Statement.{statement}
-use Rattle.replay.proofs.state.prior_kept.Tie as tie
+use Rattle.replay.proofs.state.prior_incumbent.Statement.{statement}
+use Rattle.replay.proofs.state.prior_incumbent.Tie as tie
 
 abbrev Inv-loop : tie.InvT-loop
 Inv-loop count cells₀ i₀ cells i = Unit {0}
@@ -34,8 +34,8 @@ returns c = search needs
 returns-2 : tie.Need-returns-2 Inv-loop μ-loop
 returns-2 c = search needs
 
-pub prior-kept-spec : {M : Type 1} → statement M
-prior-kept-spec =
+pub prior-incumbent-spec : {M : Type 1} → statement M
+prior-incumbent-spec =
     tie.close
     (tie.spec
     Inv-loop
