@@ -1,25 +1,19 @@
--- The places that have a label, node by node: at most one of each.
+-- The places that have a label, node by node.
 -- Assumes nothing.
 use mathlib.Core.Path.{_≡_, refl, sym, ap, ap₂, _∙_}
 use mathlib.Core.Bool.{Bool}
 use mathlib.Core.List.{List, _∷_, _++_, map}
-use Prim.Native.Nat.{ℕ, zero, suc, _+_, _≤_, _<_}
+use Prim.Native.Nat.{ℕ, zero, suc, _+_, _<_}
 use native.Mathlib.Omega.{arith}
-use borrow.Author.Tests.{eqb-true}
 use lib.Dec.{eqb}
-use lib.ListN.{length}
 use Rattle.integers.specs.Places.{range, select, offset}
 use Rattle.integers.proofs.Places.{by-test}
 use Rattle.integers.proofs.Ranges.{range-add, select-append}
-use Rattle.integers.proofs.Totals.{offset-at-most}
-use Rattle.instance.specs.Instance.{Instance, first, nodeCells}
-use Rattle.instance.specs.Readable.{Proper}
+use Rattle.instance.specs.Instance.{Instance, first}
 use Rattle.index.specs.Index.{having}
-use Rattle.index.proofs.Lists.{append-map, length-map}
-use Rattle.schedule.specs.Sweep.{Entry, entry, each, positions, labelled}
+use Rattle.index.proofs.Lists.{append-map}
+use Rattle.schedule.specs.Sweep.{Entry, each, positions, labelled}
 use Rattle.schedule.proofs.WritingLaws.{each-next}
-use Rattle.schedule.proofs.CountLaws.{select-few, climbs}
-use Rattle.schedule.proofs.Lengths.{length-rising}
 
 -- the numbers from a + j on that pass a test, and those from j on
 shifted : (g f : ℕ → Entry) (t : ℕ → Bool) (a j d : ℕ) → ((i : ℕ) → i < j + d → g (a + i) ≡ f i) → map g (select t (range (a + j) d)) ≡ map f (select (λ k. t (a + k)) (range j d))
@@ -46,23 +40,3 @@ module _ (I : Instance) (l : ℕ) where
       ∙ sym (ap (λ (k : List ℕ). map g (select t k)) (range-add 0 a (I .degree n))
       ∙ ap (map g) (select-append t (range 0 a) (range (0 + a) (I .degree n)))
       ∙ append-map g (select t (range 0 a)) (select t (range (0 + a) (I .degree n))))
-
-  module _ (p : Proper I) where
-    -- labels rise within a node
-    once : (u : ℕ) → u < I .nodeCount → length (labelled I l u) ≤ 1
-    unfolding labelled positions
-    once u h =
-        let g : ℕ → ℕ = (λ k. I .label (first I u + k)) in
-        let f = select-few (λ k. eqb (g k) l) g 0 (I .degree u) l (suc l) (omega arith)
-        (λ k a b t. let q = eqb-true (g k) l t in (omega arith, omega arith))
-        (λ i j a b c s t. climbs g (I .degree u) (λ k b. p .rising u k h b) i j b (omega arith)) in
-        omega arith
-
-    pub labels-few : length (having (I .label) l (nodeCells I)) ≤ I .nodeCount
-    labels-few =
-        let x = entry 4 0 0 1 in
-        let e = ap length (label-list (λ i. x) (λ u k. x) (I .nodeCount) (λ u k b d. refl)) in
-        let m = length-map (λ i. x) (having (I .label) l (nodeCells I)) in
-        let r = length-rising (λ u. map (λ k. x) (labelled I l u)) (I .nodeCount) in
-        let o = offset-at-most (λ u. length (map (λ k. x) (labelled I l u))) 1 (I .nodeCount) (λ u h. let a = once u h in omega (arith, length-map (λ k. x) (labelled I l u))) in
-        omega arith

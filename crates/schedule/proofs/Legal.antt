@@ -19,6 +19,7 @@ use Rattle.instance.specs.Sheet.{instanceOf}
 use Rattle.instance.specs.Readable.{Proper}
 use Rattle.instance.proofs.Readable.{readable}
 use Rattle.instance.proofs.LaidOut.{low-inside}
+use Rattle.instance.proofs.Indexes.{higher-few, lower-few}
 use Rattle.rules.specs.Run.{kindOf, Record, records, legalShare, legalEdge, legalPosition, legalMessage}
 use Rattle.rules.specs.Calls.{runOf, Call, rules}
 use Rattle.rules.proofs.Calls.{Under}
@@ -26,7 +27,7 @@ use Rattle.rules.proofs.Legal.{legalKind, legal, legal-run-refused}
 use Rattle.schedule.specs.Sweep.{Entry, entry, bytes, each, falling, fromEdges, toEdges, toLabels, fromLabel, rounding, toLower, toHigher, positions, labelled, forwardAt, forward, labelAt, backwardAt, backward, sweep}
 use Rattle.schedule.specs.Written.{sweepRefusal, sweepOf}
 use Rattle.schedule.proofs.WritingLaws.{length-bytes}
-use Rattle.schedule.proofs.Lengths.{mem-below, falling-mem, higher-few, lower-few}
+use Rattle.schedule.proofs.Lengths.{mem-below, falling-mem}
 use Rattle.schedule.proofs.Written.{unrefused-readable}
 
 -- ---- five bytes are one record
@@ -103,7 +104,7 @@ module _ (I : Instance) (p : Proper I) where
   rounding-legal = refl
 
   forwardAt-legal : (u : ℕ) → u < I .nodeCount → every good (forwardAt I u) ≡ true
-  unfolding forwardAt fromEdges toLabels positions legalKind legalMessage kindOf
+  unfolding forwardAt fromEdges toLabels toHigher positions legalKind legalMessage kindOf
   forwardAt-legal u h =
       let few = higher-few I p h in
       both good (map (λ e. entry 2 u e 1) (toLower I u)) (toEdges u (length (toHigher I u) + 1) (toHigher I u) ++ map (λ k. entry 3 u k 1) (range 0 (I .degree u)))
@@ -113,7 +114,7 @@ module _ (I : Instance) (p : Proper I) where
       (every-all good (λ k. entry 3 u k 1) (range 0 (I .degree u)) (λ k m. position-legal u k h (mem-below m))))
 
   backwardAt-legal : (u : ℕ) → u < I .nodeCount → every good (backwardAt I u) ≡ true
-  unfolding backwardAt fromEdges legalKind legalMessage kindOf
+  unfolding backwardAt fromEdges toLower legalKind legalMessage kindOf
   backwardAt-legal u h =
       both good (map (λ e. entry 2 u e 1) (toHigher I u)) (toEdges u (length (toLower I u)) (toLower I u))
       (every-all good (λ e. entry 2 u e 1) (toHigher I u) (λ e m. at-higher u m 1 (omega arith) (omega arith)))

@@ -1,23 +1,21 @@
--- "Either has 2E + N + 1 records"; and how many edges a node has, by the order of the edges.
+-- "Either has 2E + N + 1 records".
 -- Assumes nothing.
 use mathlib.Core.Path.{_≡_, refl, ap, _∙_}
 use mathlib.Core.List.{List, _++_, map}
 use mathlib.Core.List.{List·Memᴰ as Mem, List·Memᴰ·head as here, List·Memᴰ·tail as there, List·Memᴰ·not-nil as not-nil}
-use mathlib.Core.Logic.{_⊎_, inl, inr}
-use Prim.Native.Nat.{ℕ, zero, suc, _+_, _*_, _≤_, _<_}
+use Prim.Native.Nat.{ℕ, zero, suc, _+_, _*_, _<_}
 use native.Mathlib.Omega.{arith}
-use borrow.Author.Tests.{eqb-true}
 use lib.Dec.{eqb}
 use lib.ListN.{length, length-append}
 use Rattle.integers.specs.Places.{range, offset}
-use Rattle.integers.proofs.Places.{by-cond, range-mem}
+use Rattle.integers.proofs.Places.{by-cond, range-mem, length-range}
 use Rattle.instance.specs.Instance.{Instance, first, nodeCells}
 use Rattle.instance.specs.Readable.{Proper}
 use Rattle.instance.proofs.LaidOut.{low-inside}
-use Rattle.index.proofs.Lists.{length-map, length-range}
+use Rattle.index.proofs.Lists.{length-map}
 use Rattle.schedule.specs.Sweep.{Entry, entry, bytes, each, falling, fromEdges, toEdges, toLabels, fromLabel, rounding, toLower, toHigher, positions, labelled, forwardAt, forward, labelAt, backwardAt, backward, sweep, sweepRecords, sweepLength}
 use Rattle.schedule.proofs.WritingLaws.{each-next, length-bytes, length-toEdges}
-use Rattle.schedule.proofs.CountLaws.{climbs, select-few, offset-ext, offset-add, offset-swap, by-value}
+use Rattle.schedule.proofs.CountLaws.{offset-ext, offset-add, offset-swap, by-value}
 
 -- ---- parts
 
@@ -30,12 +28,12 @@ falling-mem zero m = absurd (not-nil m)
 falling-mem (suc n) (here e) = omega arith
 falling-mem (suc n) (there m) = let h = falling-mem n m in omega arith
 
-pub length-rising : (f : ℕ → List Entry) (n : ℕ) → length (each f (range 0 n)) ≡ offset (λ i. length (f i)) n
+length-rising : (f : ℕ → List Entry) (n : ℕ) → length (each f (range 0 n)) ≡ offset (λ i. length (f i)) n
 unfolding each range offset
 length-rising f zero = refl
 length-rising f (suc n) = ap length (each-next f n) ∙ length-append (each f (range 0 n)) (f n) ∙ ap (λ (k : ℕ). k + length (f n)) (length-rising f n)
 
-pub length-falling : (f : ℕ → List Entry) (n : ℕ) → length (each f (falling n)) ≡ offset (λ i. length (f i)) n
+length-falling : (f : ℕ → List Entry) (n : ℕ) → length (each f (falling n)) ≡ offset (λ i. length (f i)) n
 unfolding each falling offset
 length-falling f zero = refl
 length-falling f (suc n) = let ih = length-falling f n in let a = length-append (f n) (each f (falling n)) in omega arith
@@ -123,35 +121,3 @@ module _ (I : Instance) where
     pub sweep-length : (direction : ℕ) → length (bytes (sweep I direction)) ≡ sweepLength I
     unfolding sweepLength
     sweep-length direction = length-bytes (sweep I direction) ∙ ap (λ (k : ℕ). 5 * k) (sweep-records direction)
-
-    -- ---- edges rise by their lower ends, then by their higher, however far apart
-
-    rise : (i j : ℕ) → i < j → j < I .edgeCount → 64 * I .low i + I .high i < 64 * I .low j + I .high j
-    rise = climbs (λ e. 64 * I .low e + I .high e) (I .edgeCount) (λ e h. step e h (p .sorted e h))
-      where
-        step : (e : ℕ) → suc e < I .edgeCount → (I .low e < I .low (suc e)) ⊎ ((I .low e ≡ I .low (suc e)) × (I .high e < I .high (suc e))) → 64 * I .low e + I .high e < 64 * I .low (suc e) + I .high (suc e)
-        step e h (inl a) = omega (arith, p .inside e (omega arith), p .nodesFew)
-        step e h (inr a) = omega (arith, a .0, a .1)
-
-    -- a node's edges to higher nodes have different ends, from a on
-    higher-from : (u a : ℕ) → a ≤ I .nodeCount → ((e : ℕ) → e < I .edgeCount → I .low e ≡ u → a ≤ I .high e) → length (toHigher I u) + a ≤ I .nodeCount
-    unfolding toHigher
-    higher-from u a h k =
-        select-few (λ e. eqb (I .low e) u) (I .high) 0 (I .edgeCount) a (I .nodeCount) h
-        (λ e _ b t. (k e (omega arith) (eqb-true (I .low e) u t), p .inside e (omega arith)))
-        (λ i j _ b c t s. let q = eqb-true (I .low i) u t in let r = eqb-true (I .low j) u s in let o = rise i j b (omega arith) in omega arith)
-
-    pub higher-any : (u : ℕ) → length (toHigher I u) ≤ I .nodeCount
-    higher-any u = let f = higher-from u 0 (omega arith) (λ e _ _. omega arith) in omega arith
-
-    pub higher-few : {u : ℕ} → u < I .nodeCount → length (toHigher I u) + suc u ≤ I .nodeCount
-    higher-few {u} h = higher-from u (suc u) h (λ e b q. let o = p .ordered e b in omega arith)
-
-    -- and those to lower nodes below it
-    pub lower-few : (u : ℕ) → length (toLower I u) ≤ u
-    unfolding toLower
-    lower-few u =
-        let f = select-few (λ e. eqb (I .high e) u) (I .low) 0 (I .edgeCount) 0 u (omega arith)
-        (λ e a b t. let q = eqb-true (I .high e) u t in let o = p .ordered e (omega arith) in (omega arith, omega arith))
-        (λ i j a b c t s. let q = eqb-true (I .high i) u t in let r = eqb-true (I .high j) u s in let o = rise i j b (omega arith) in omega arith) in
-        omega arith

@@ -5,6 +5,6 @@ pub mod CountLaws
 pub mod Lengths
 pub mod LabelLaws
 pub mod SpotLaws
-pub mod Sight
+pub mod IndexedSheet
 pub mod Written
 pub mod Legal

@@ -9,9 +9,10 @@ use native.Mathlib.Omega.{arith}
 use lib.ListN.{length, getD, set, length-append, drop-of-length-le}
 use lib.Seq.{sets, sets-eq, length-sets}
 use Rattle.integers.specs.Places.{range}
+use Rattle.integers.proofs.Places.{length-range}
 use Rattle.integers.proofs.Ranges.{range-add}
 use Rattle.index.specs.Index.{many, held}
-use Rattle.index.proofs.Lists.{length-map, length-range}
+use Rattle.index.proofs.Lists.{length-map}
 use Rattle.schedule.specs.Sweep.{Entry, entry, bytes, each, falling, fromEdges, toEdges}
 use Rattle.schedule.specs.Writing.{Writing, Wrote, Room, received, sent, spotted, labelBy}
 

@@ -2,10 +2,9 @@
 use mathlib.Core.List.{List, [], _∷_}
 use Prim.Native.Nat.{ℕ, _*_}
 use Prim.Native.String.{String}
-use lib.ListN.{length, replicate}
-use Rattle.instance.specs.Instance.{table}
+use lib.ListN.{replicate}
 use Rattle.instance.specs.Sample.{sample, trailerAlone}
-use Rattle.schedule.specs.Sweep.{Entry, entry, bytes, each, forward, backward}
+use Rattle.schedule.specs.Sweep.{Entry, entry, bytes}
 use Rattle.schedule.specs.Written.{Written, written, sweepOf}
 
 -- what a call leaves and answers, and what the document states

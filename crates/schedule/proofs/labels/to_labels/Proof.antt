@@ -4,7 +4,8 @@ use mathlib.Core.List.{map}
 use Prim.Native.Nat.{ℕ, _-_, _≤_}
 use native.Mathlib.Omega.{arith}
 use denote.Ref.{now}
-use Rattle.index.proofs.Lists.{length-map, length-range}
+use Rattle.integers.proofs.Places.{length-range}
+use Rattle.index.proofs.Lists.{length-map}
 use Rattle.schedule.specs.Sweep.{Entry, entry, toLabels}
 use Rattle.schedule.specs.Writing.{Writing}
 use Rattle.schedule.proofs.WritingLaws.{room-as, onward, onward-start, onward-more, onward-end, writing-start, writing-as, writing-size, turn-room, turn-more}

@@ -11,7 +11,7 @@ use Rattle.index.specs.Index.{Indexed}
 use Rattle.schedule.specs.Sweep.{Entry, each, falling, rounding, labelAt, backwardAt, backward}
 use Rattle.schedule.specs.Writing.{Room, backwardBy}
 use Rattle.schedule.proofs.WritingLaws.{room-as, room-whole, room-left, room-right, writing-for, wrote-append, wrote-all}
-use Rattle.schedule.proofs.Sight.{nodes-few, higher-indexed, lower-rows, higher-rows, backward-nodes}
+use Rattle.schedule.proofs.IndexedSheet.{nodes-few, higher-indexed, lower-rows, higher-rows, backward-nodes}
 use borrow.Author.Needs.{needs}
 use Rattle.schedule.proofs.sweep.backward.Statement.{statement}
 use Rattle.schedule.proofs.sweep.backward.Tie as tie

@@ -11,7 +11,7 @@ use Rattle.index.specs.Index.{indexOf, Indexed}
 use Rattle.schedule.specs.Sweep.{each, falling, labelAt}
 use Rattle.schedule.specs.Writing.{labelBy}
 use Rattle.schedule.proofs.WritingLaws.{room-as, writing-for}
-use Rattle.schedule.proofs.Sight.{sizes, nodes-few, node-bytes, label-bytes, labels-64, places-few, places-indexed, place-rows, label-lists}
+use Rattle.schedule.proofs.IndexedSheet.{sizes, nodes-few, node-bytes, label-bytes, labels-64, places-few, places-indexed, place-rows, label-lists}
 use borrow.Author.Needs.{needs}
 use Rattle.schedule.proofs.sweep.backward_labels.Statement.{statement}
 use Rattle.schedule.proofs.sweep.backward_labels.Tie as tie

@@ -5,7 +5,7 @@ use native.Mathlib.Omega.{arith}
 use denote.Ref.{now}
 use lib.ListN.{take, drop}
 use Rattle.index.specs.Index.{indexOf}
-use Rattle.schedule.proofs.Sight.{sizes, end-bytes}
+use Rattle.schedule.proofs.IndexedSheet.{sizes, end-bytes}
 use borrow.Author.Needs.{needs}
 use Rattle.schedule.proofs.sweep.edges_by.Statement.{statement}
 use Rattle.schedule.proofs.sweep.edges_by.Tie as tie

@@ -12,7 +12,7 @@ use Rattle.index.specs.Index.{Indexed}
 use Rattle.schedule.specs.Sweep.{Entry, each, rounding, forwardAt, forward}
 use Rattle.schedule.specs.Writing.{Room, forwardBy}
 use Rattle.schedule.proofs.WritingLaws.{room-as, room-whole, room-left, room-right, writing-for, wrote-append, wrote-all}
-use Rattle.schedule.proofs.Sight.{nodes-few, node-bytes, higher-indexed, lower-rows, higher-rows, forward-nodes}
+use Rattle.schedule.proofs.IndexedSheet.{nodes-few, node-bytes, higher-indexed, lower-rows, higher-rows, forward-nodes}
 use borrow.Author.Needs.{needs}
 use Rattle.schedule.proofs.sweep.forward.Statement.{statement}
 use Rattle.schedule.proofs.sweep.forward.Tie as tie

@@ -5,8 +5,9 @@ use native.Mathlib.Omega.{arith}
 use denote.Ref.{now}
 use lib.ListN.{length}
 use Rattle.integers.specs.Places.{range}
+use Rattle.integers.proofs.Places.{length-range}
 use Rattle.instance.specs.Bytes.{byte}
-use Rattle.index.proofs.Lists.{length-map, length-range}
+use Rattle.index.proofs.Lists.{length-map}
 use Rattle.schedule.specs.Sweep.{Entry, entry, toLabels}
 use Rattle.schedule.specs.Writing.{received, sent}
 use Rattle.schedule.proofs.WritingLaws.{length-received, length-sent, room-as, room-left, room-right, wrote-append}

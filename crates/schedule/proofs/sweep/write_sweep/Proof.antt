@@ -7,7 +7,6 @@ use borrow.Author.Needs.{needs}
 use denote.Ref.{now}
 use lib.ListN.{length}
 use Rattle.instance.specs.declared.reading.Layout.{Layout}
-use Rattle.instance.specs.Instance.{first}
 use Rattle.instance.specs.Sheet.{instanceOf, refusalOf}
 use Rattle.instance.proofs.LaidOut.{LaidOut, refusal-is, laid-out}
 use Rattle.index.specs.Index.{Indexed}
@@ -16,7 +15,7 @@ use Rattle.schedule.specs.Written.{written, sweepOf}
 use Rattle.schedule.specs.Writing.{Swept}
 use Rattle.schedule.proofs.Lengths.{sweep-length}
 use Rattle.schedule.proofs.Written.{known-yes, known-no, forward-is, backward-is, unread, unknown, unfit, swept}
-use Rattle.schedule.proofs.Sight.{lower-indexed}
+use Rattle.schedule.proofs.IndexedSheet.{lower-indexed}
 use Rattle.schedule.proofs.sweep.write_sweep.Statement.{statement}
 use Rattle.schedule.proofs.sweep.write_sweep.Tie as tie
 

@@ -1,8 +1,8 @@
--- What is known of a sheet that was read and not refused: its edges and its labels, as the indexes have them.
+-- A sheet that was read and not refused: its edges and its labels, as the indexes have them.
 -- Assumes nothing.
 use mathlib.Core.Path.{_≡_, sym, ap, ap₂, _∙_}
 use mathlib.Core.List.{List, map}
-use Prim.Native.Nat.{ℕ, _+_, _-_, _*_, _/_, _%_, _≤_, _<_}
+use Prim.Native.Nat.{ℕ, _+_, _*_, _/_, _%_, _≤_, _<_}
 use native.Mathlib.Nat.{mul-add-div, mul-add-mod-self-left, div-eq-of-lt, mod-eq-of-lt}
 use native.Mathlib.Omega.{arith}
 use lib.ListN.{length, getD, take, drop}
@@ -13,14 +13,15 @@ use Rattle.instance.specs.Sheet.{instanceOf, endsAt}
 use Rattle.instance.specs.Readable.{Proper, Readable}
 use Rattle.instance.proofs.Readable.{readable}
 use Rattle.instance.proofs.LaidOut.{positions-few}
+use Rattle.instance.proofs.Indexes.{labels-indexed, highs-indexed, lows-indexed}
 use Rattle.index.specs.Index.{indexOf, many, held, Indexed}
-use Rattle.index.proofs.Indexed.{indexed-part, many-is}
+use Rattle.index.proofs.Indexed.{many-is}
 use Rattle.schedule.specs.declared.sweep.Counts.{Counts}
 use Rattle.schedule.specs.Sweep.{entry, each, falling, fromLabel, toLower, toHigher, positions, forwardAt, labelAt, backwardAt}
 use Rattle.schedule.specs.Writing.{Rows, Spots, Swept, edgesBy, spotted, forwardBy, backwardBy, labelBy}
 use Rattle.schedule.proofs.WritingLaws.{each-ext}
-use Rattle.schedule.proofs.Lengths.{mem-below, falling-mem, higher-any, lower-few}
-use Rattle.schedule.proofs.LabelLaws.{label-list, labels-few}
+use Rattle.schedule.proofs.Lengths.{mem-below, falling-mem}
+use Rattle.schedule.proofs.LabelLaws.{label-list}
 
 -- an index whose things are few
 pub rows-of : {key : ℕ → ℕ} {m bound : ℕ} {index : List ℕ} → Indexed key m index → m ≤ bound → Rows index bound
@@ -78,20 +79,10 @@ module _ {s : List ℕ} {c : Counts} (w : Swept s c) where
   -- ---- the edges by their higher ends, and by their lower
 
   pub lower-indexed : Indexed (I .high) (I .edgeCount) (edgesBy s c 1)
-  unfolding instanceOf toLower
-  lower-indexed =
-      let from = n + 5 * c .positions + 1 in
-      indexed-part s from (2 * c .edges) 2 end-bytes (omega (arith, w .edges)) (omega (arith, w .edges)) (omega (arith, proper .edgesFew))
-      (λ i h. let e : from + 2 * i ≡ endsAt s + 2 * i + 1 = omega (arith, ends-at) in ap (byte s) e)
-      (λ l h. let f = lower-few I proper l in omega arith)
+  lower-indexed = highs-indexed s (w .readable) ends-at (ap (_*_ 2) (w .edges))
 
   pub higher-indexed : Indexed (I .low) (I .edgeCount) (edgesBy s c 0)
-  unfolding instanceOf toHigher
-  higher-indexed =
-      let from = n + 5 * c .positions + 0 in
-      indexed-part s from (2 * c .edges) 2 (omega (arith, end-bytes)) (omega (arith, w .edges)) (omega (arith, w .edges)) (omega (arith, proper .edgesFew))
-      (λ i h. let e : from ≡ endsAt s = omega (arith, ends-at) in ap (λ (a : ℕ). byte s (a + 2 * i)) e)
-      (λ l h. let f = higher-any I proper l in omega (arith, proper .nodesFew))
+  higher-indexed = let e : n + 5 * c .positions + 0 ≡ endsAt s = omega (arith, ends-at) in lows-indexed s (w .readable) e (ap (_*_ 2) (w .edges))
 
   module _ {lower higher : List ℕ} (x : Indexed (I .high) (I .edgeCount) lower) (y : Indexed (I .low) (I .edgeCount) higher) where
     -- at most 64 edges of a node
@@ -140,11 +131,7 @@ module _ {s : List ℕ} {c : Counts} (w : Swept s c) where
   -- ---- the places by their labels
 
   pub places-indexed : Indexed (I .label) (nodeCells I) (indexOf (take (c .positions) (drop n s)) 1)
-  unfolding instanceOf
-  places-indexed =
-      indexed-part s n (c .positions) 1 label-bytes (omega (arith, w .positions)) (omega (arith, w .positions)) (omega (arith, positions-few proper))
-      (λ i h. let e : n + 1 * i ≡ I .nodeCount + i = omega (arith, w .nodes) in ap (byte s) e)
-      (λ l h. let f = labels-few I l proper in omega (arith, proper .nodesFew))
+  places-indexed = labels-indexed s (w .readable) (w .nodes) (w .positions)
 
   module _ {places spots : List ℕ} (x : Indexed (I .label) (nodeCells I) places) (m : Spots (byte s) n spots) where
     pub place-rows : Rows places 1024
