@@ -131,7 +131,7 @@ five out at kind node index share =
     let e4 : at + 4 ≡ suc (suc (suc (suc at))) = omega arith in
     record { content = rw (e1, e2, e3, e4); place = omega arith }
 
--- ---- loops: what is left from i on, below n; and the numbers below i, falling
+-- ---- loops: of the numbers below n what is left from i on, rising; and what is left when i have passed, falling
 
 abbrev pub onward : ℕ → ℕ → List ℕ
 onward n i = range i (n - i)
@@ -148,6 +148,20 @@ onward-more {n} {i} h =
 pub onward-end : {n i : ℕ} → n ≤ i → onward n i ≡ []
 unfolding range
 onward-end {n} {i} h = let e : n - i ≡ 0 = omega arith in ap (range i) e
+
+abbrev pub downward : ℕ → ℕ → List ℕ
+downward n i = falling (n - i)
+
+pub downward-start : (n : ℕ) → falling n ≡ downward n 0
+downward-start n = let e : n ≡ n - 0 = omega arith in ap falling e
+
+pub downward-more : {n i : ℕ} → i < n → downward n i ≡ (n - (i + 1)) ∷ downward n (i + 1)
+unfolding falling
+downward-more {n} {i} h = let e : n - i ≡ suc (n - (i + 1)) = omega arith in ap falling e
+
+pub downward-end : {n i : ℕ} → n ≤ i → downward n i ≡ []
+unfolding falling
+downward-end {n} {i} h = let e : n - i ≡ 0 = omega arith in ap falling e
 
 -- the lists of each
 pub each-append : (f : ℕ → List Entry) (k l : List ℕ) → each f (k ++ l) ≡ each f k ++ each f l
@@ -167,21 +181,6 @@ pub each-ext : (f g : ℕ → List Entry) (l : List ℕ) → ((i : ℕ) → Mem 
 unfolding each
 each-ext f g [] h = refl
 each-ext f g (i ∷ l) h = ap₂ _++_ (h i (here refl)) (each-ext f g l (λ j m. h j (there m)))
-
-pub each-more : (f : ℕ → List Entry) {n i : ℕ} → i < n → each f (onward n i) ≡ f i ++ each f (onward n (i + 1))
-unfolding each
-each-more f h = ap (each f) (onward-more h)
-
-pub each-end : (f : ℕ → List Entry) {n i : ℕ} → n ≤ i → each f (onward n i) ≡ []
-unfolding each
-each-end f h = ap (each f) (onward-end h)
-
-pub each-falling : (f : ℕ → List Entry) {i j : ℕ} → i ≡ suc j → each f (falling i) ≡ f j ++ each f (falling j)
-unfolding each falling
-each-falling f e = ap (λ (k : ℕ). each f (falling k)) e
-
-pub falling-none : (f : ℕ → List Entry) (n : ℕ) → each f (falling n) ≡ each f (falling (n - 0))
-falling-none f n = let e : n ≡ n - 0 = omega arith in ap (λ (k : ℕ). each f (falling k)) e
 
 -- ---- a row of an index from its j-th thing on
 
@@ -215,27 +214,20 @@ shares-more index u j more h =
     let x = getD index (65 * u + 1 + j) 0 in
     ap (toEdges u (many index u - j + more)) (rest-more index u j h) ∙ ap (λ (q : ℕ). entry 1 u x (many index u - j + more) ∷ toEdges u q (rest index u (j + 1))) e
 
--- ---- a loop that writes a list for each number, rising or falling
+-- ---- a loop that writes a list for each of some numbers: k are left, and after the turn of i, l
 
-module _ (f : ℕ → List Entry) {out₀ : List ℕ} {at₀ : ℕ} {whole : List Entry} {out : List ℕ} {at : ℕ} where
-  pub rising-room : {n i : ℕ} → Writing out₀ at₀ whole out at (each f (onward n i)) → i < n → Room out₀ at₀ (length whole) → Room out at (length (f i))
-  rising-room {n} {i} w h r = writing-room (f i) (each f (onward n (i + 1))) (writing-as (each-more f h) w) r
+pub each-start : (f : ℕ → List Entry) {k l : List ℕ} (out : List ℕ) (at : ℕ) → k ≡ l → Writing out at (each f k) out at (each f l)
+each-start f {k} out at e = writing-as (ap (each f) e) (writing-start out at (each f k))
 
-  pub rising-more : {n i : ℕ} {out′ : List ℕ} {at′ : ℕ} → Writing out₀ at₀ whole out at (each f (onward n i)) → i < n → Wrote out at (f i) out′ at′ → Writing out₀ at₀ whole out′ at′ (each f (onward n (i + 1)))
-  rising-more {n} {i} w h v = writing-more (f i) (each f (onward n (i + 1))) (writing-as (each-more f h) w) v
+module _ (f : ℕ → List Entry) {out₀ : List ℕ} {at₀ : ℕ} {whole : List Entry} {out : List ℕ} {at : ℕ} {k : List ℕ} (w : Writing out₀ at₀ whole out at (each f k)) where
+  pub each-room : {i : ℕ} {l : List ℕ} → k ≡ i ∷ l → Room out₀ at₀ (length whole) → Room out at (length (f i))
+  unfolding each
+  each-room {i} {l} e r = writing-room (f i) (each f l) (writing-as (ap (each f) e) w) r
 
-  pub rising-end : {n i : ℕ} → Writing out₀ at₀ whole out at (each f (onward n i)) → n ≤ i → Wrote out₀ at₀ whole out at
-  rising-end w h = writing-as (each-end f h) w
+  pub each-more : {i : ℕ} {l : List ℕ} {out′ : List ℕ} {at′ : ℕ} → k ≡ i ∷ l → Wrote out at (f i) out′ at′ → Writing out₀ at₀ whole out′ at′ (each f l)
+  unfolding each
+  each-more {i} {l} e v = writing-more (f i) (each f l) (writing-as (ap (each f) e) w) v
 
-  pub falling-room : {i j : ℕ} → Writing out₀ at₀ whole out at (each f (falling i)) → i ≡ suc j → Room out₀ at₀ (length whole) → Room out at (length (f j))
-  falling-room {i} {j} w e r = writing-room (f j) (each f (falling j)) (writing-as (each-falling f e) w) r
-
-  pub falling-more : {i j : ℕ} {out′ : List ℕ} {at′ : ℕ} → Writing out₀ at₀ whole out at (each f (falling i)) → i ≡ suc j → Wrote out at (f j) out′ at′ → Writing out₀ at₀ whole out′ at′ (each f (falling j))
-  falling-more {i} {j} w e v = writing-more (f j) (each f (falling j)) (writing-as (each-falling f e) w) v
-
-  pub falling-end : {i : ℕ} → Writing out₀ at₀ whole out at (each f (falling i)) → i ≤ 0 → Wrote out₀ at₀ whole out at
-  unfolding each falling
-  falling-end {i} w h = let e : i ≡ 0 = omega arith in writing-as (ap (λ (k : ℕ). each f (falling k)) e) w
-
-pub rising-start : (f : ℕ → List Entry) (n : ℕ) (out : List ℕ) (at : ℕ) → Writing out at (each f (range 0 n)) out at (each f (onward n 0))
-rising-start f n out at = writing-as (ap (each f) (onward-start n)) (writing-start out at (each f (range 0 n)))
+  pub each-end : k ≡ [] → Wrote out₀ at₀ whole out at
+  unfolding each
+  each-end e = writing-as (ap (each f) e) w

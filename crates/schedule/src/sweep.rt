@@ -117,9 +117,10 @@ fn backward_nodes(
     ensures { λ r. ⌜ Wrote (now (out .entry)) at (each (backwardBy (now (lower .entry)) (now (higher .entry))) (falling n)) (now (out .exit)) r ⌝ }
 {
     let mut next = at;
-    let mut u = n;
-    while 0 < u {
-        u -= 1;
+    let mut passed = 0;
+    while passed < n {
+        passed += 1;
+        let u = n - passed;
         next = backward_at(lower, higher, u, out, next);
     }
     next

@@ -1,31 +1,30 @@
 -- `backward_nodes` meets its contract: a list for each node, falling.
-use mathlib.Core.Path.{_≡_}
 use mathlib.Core.List.{List}
-use Prim.Native.Nat.{ℕ, suc, _-_, _≤_}
+use Prim.Native.Nat.{ℕ, _-_, _≤_}
 use native.Mathlib.Omega.{arith}
 use denote.Ref.{now}
 use Rattle.schedule.specs.Sweep.{Entry, each, falling}
 use Rattle.schedule.specs.Writing.{Writing, backwardBy}
-use Rattle.schedule.proofs.WritingLaws.{writing-start, writing-size, falling-room, falling-more, falling-end}
+use Rattle.schedule.proofs.WritingLaws.{downward, downward-start, downward-more, downward-end, writing-size, each-start, each-room, each-more, each-end}
 use Rattle.schedule.proofs.sweep.backward_nodes.Statement.{statement}
 use Rattle.schedule.proofs.sweep.backward_nodes.Tie as tie
 
 abbrev Inv-loop : tie.InvT-loop
-Inv-loop n lower higher out₀ at next₀ u₀ out next u =
-    (u ≤ n) × Writing out₀ at (each (backwardBy lower higher) (falling n)) out next (each (backwardBy lower higher) (falling u))
+Inv-loop n lower higher out₀ at next₀ passed₀ out next passed =
+    (passed ≤ n) × Writing out₀ at (each (backwardBy lower higher) (falling n)) out next (each (backwardBy lower higher) (downward n passed))
 
 abbrev μ-loop : tie.MeasureT-loop
-μ-loop n lower higher out₀ at next₀ u₀ out next u = u
+μ-loop n lower higher out₀ at next₀ passed₀ out next passed = n - passed
 
 -- a node's list
 abbrev f : tie.Start Inv-loop μ-loop → ℕ → List Entry
 f q = backwardBy (now (q .args .lower)) (now (q .args .higher))
 
-next : (i : tie.In-loop Inv-loop μ-loop) → i .before .loop .u ≡ suc (i .before .loop .u - 1)
-next i = omega (arith, i .loop-test .taken)
-
 loop-holds : tie.Need-loop-holds Inv-loop μ-loop
-loop-holds c = let q = c .before in (omega arith, writing-start (now (q .args .out)) (q .args .at) (each (f q) (falling (q .args .n))))
+loop-holds c = let q = c .before in (omega arith, each-start (f q) (now (q .args .out)) (q .args .at) (downward-start (q .args .n)))
+
+add-passed : tie.Need-add-passed Inv-loop μ-loop
+add-passed c = omega arith
 
 sub-u : tie.Need-sub-u Inv-loop μ-loop
 sub-u c = omega arith
@@ -34,19 +33,20 @@ backward-at-requires : tie.Need-backward-at-requires Inv-loop μ-loop
 backward-at-requires c κs =
     let i = c .before in
     let q = i .before .before .before in
-    (q .pre .0, (q .pre .1 .0, (omega (arith, i .loop-test .taken, i .before .loop .inv .0, q .pre .1 .1 .0), falling-room (f q) (i .before .loop .inv .1) (next i) (q .pre .1 .1 .1))))
+    let h = i .loop-test .taken in
+    (q .pre .0, (q .pre .1 .0, (omega (arith, h, q .pre .1 .1 .0), each-room (f q) (i .before .loop .inv .1) (downward-more h) (q .pre .1 .1 .1))))
 
 loop-less : tie.Need-loop-less Inv-loop μ-loop
 loop-less c = omega arith
 
 loop-again : tie.Need-loop-again Inv-loop μ-loop
-loop-again c = let i = c .before .before .before .before in (omega arith, falling-more (f (i .before .before .before)) (i .before .loop .inv .1) (next i) (c .before .before .backward-at .ensures))
+loop-again c = let i = c .before .before .before .before in (omega arith, each-more (f (i .before .before .before)) (i .before .loop .inv .1) (downward-more (i .loop-test .taken)) (c .before .before .backward-at .ensures))
 
 same-length : tie.Need-same-length Inv-loop μ-loop
 same-length c = writing-size _ (c .before .loop .inv .1)
 
 returns : tie.Need-returns Inv-loop μ-loop
-returns c = falling-end (f (c .before .before .before)) (c .before .loop .inv .1) (c .loop-test .left)
+returns c = each-end (f (c .before .before .before)) (c .before .loop .inv .1) (downward-end (c .loop-test .left))
 
 pub backward-nodes-spec : {M : Type 1} → statement M
 backward-nodes-spec =
@@ -55,6 +55,7 @@ backward-nodes-spec =
     Inv-loop
     μ-loop
     loop-holds
+    add-passed
     sub-u
     backward-at-requires
     loop-less

@@ -6,7 +6,7 @@ use denote.Ref.{now}
 use Rattle.integers.specs.Places.{range}
 use Rattle.schedule.specs.Sweep.{Entry, each}
 use Rattle.schedule.specs.Writing.{Writing, forwardBy}
-use Rattle.schedule.proofs.WritingLaws.{onward, writing-size, rising-start, rising-room, rising-more, rising-end}
+use Rattle.schedule.proofs.WritingLaws.{onward, onward-start, onward-more, onward-end, writing-size, each-start, each-room, each-more, each-end}
 use Rattle.schedule.proofs.sweep.forward_nodes.Statement.{statement}
 use Rattle.schedule.proofs.sweep.forward_nodes.Tie as tie
 
@@ -22,14 +22,14 @@ abbrev f : tie.Start Inv-loop μ-loop → ℕ → List Entry
 f q = forwardBy (now (q .args .sheet)) (now (q .args .lower)) (now (q .args .higher))
 
 loop-holds : tie.Need-loop-holds Inv-loop μ-loop
-loop-holds c = let q = c .before .before in (omega arith, rising-start (f q) (q .args .n) (now (q .args .out)) (q .args .at))
+loop-holds c = let q = c .before .before in (omega arith, each-start (f q) (now (q .args .out)) (q .args .at) (onward-start (q .args .n)))
 
 forward-at-requires : tie.Need-forward-at-requires Inv-loop μ-loop
 forward-at-requires c κs =
     let i = c .before in
     let q = i .before .before .before .before in
     let h = i .loop-test .taken in
-    (q .pre .0, (q .pre .1 .0, ((omega (arith, h, q .pre .1 .1 .0), omega (arith, h, q .pre .1 .1 .0)), rising-room (f q) (i .before .loop .inv .1) h (q .pre .1 .1 .1))))
+    (q .pre .0, (q .pre .1 .0, ((omega (arith, h, q .pre .1 .1 .0), omega (arith, h, q .pre .1 .1 .0)), each-room (f q) (i .before .loop .inv .1) (onward-more h) (q .pre .1 .1 .1))))
 
 add-u : tie.Need-add-u Inv-loop μ-loop
 add-u c = omega arith
@@ -38,13 +38,13 @@ loop-less : tie.Need-loop-less Inv-loop μ-loop
 loop-less c = omega arith
 
 loop-again : tie.Need-loop-again Inv-loop μ-loop
-loop-again c = let i = c .before .before .before .before in (omega arith, rising-more (f (i .before .before .before .before)) (i .before .loop .inv .1) (i .loop-test .taken) (c .before .before .forward-at .ensures))
+loop-again c = let i = c .before .before .before .before in (omega arith, each-more (f (i .before .before .before .before)) (i .before .loop .inv .1) (onward-more (i .loop-test .taken)) (c .before .before .forward-at .ensures))
 
 same-length : tie.Need-same-length Inv-loop μ-loop
 same-length c = writing-size _ (c .before .loop .inv .1)
 
 returns : tie.Need-returns Inv-loop μ-loop
-returns c = rising-end (f (c .before .before .before .before)) (c .before .loop .inv .1) (c .loop-test .left)
+returns c = each-end (f (c .before .before .before .before)) (c .before .loop .inv .1) (onward-end (c .loop-test .left))
 
 pub forward-nodes-spec : {M : Type 1} → statement M
 forward-nodes-spec =
