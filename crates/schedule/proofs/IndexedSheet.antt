@@ -1,6 +1,6 @@
 -- A sheet that was read and not refused: its edges and its labels, as the indexes have them.
 -- Assumes nothing.
-use mathlib.Core.Path.{_≡_, sym, ap, ap₂, _∙_}
+use mathlib.Core.Path.{_≡_, sym, ap, ap₂, subst, _∙_}
 use mathlib.Core.List.{List, map}
 use Prim.Native.Nat.{ℕ, _+_, _*_, _/_, _%_, _≤_, _<_}
 use native.Mathlib.Nat.{mul-add-div, mul-add-mod-self-left, div-eq-of-lt, mod-eq-of-lt}
@@ -23,8 +23,12 @@ use Rattle.schedule.proofs.WritingLaws.{each-ext}
 use Rattle.schedule.proofs.Lengths.{mem-below, falling-mem}
 use Rattle.schedule.proofs.LabelLaws.{label-list}
 
+-- an index in other words
+indexed-as : {key : ℕ → ℕ} {m : ℕ} {k l : List ℕ} → l ≡ k → Indexed key m k → Indexed key m l
+indexed-as {key} {m} e x = subst (Indexed key m) (sym e) x
+
 -- an index whose things are few
-pub rows-of : {key : ℕ → ℕ} {m bound : ℕ} {index : List ℕ} → Indexed key m index → m ≤ bound → Rows index bound
+rows-of : {key : ℕ → ℕ} {m bound : ℕ} {index : List ℕ} → Indexed key m index → m ≤ bound → Rows index bound
 rows-of x h = record { few = x .few; inside = λ l j a b. let i = x .inside l j a b in omega arith }
 
 -- a place's two numbers
@@ -78,11 +82,11 @@ module _ {s : List ℕ} {c : Counts} (w : Swept s c) where
 
   -- ---- the edges by their higher ends, and by their lower
 
-  pub lower-indexed : Indexed (I .high) (I .edgeCount) (edgesBy s c 1)
-  lower-indexed = highs-indexed s (w .readable) ends-at (ap (_*_ 2) (w .edges))
+  pub lower-indexed : {l : List ℕ} → l ≡ edgesBy s c 1 → Indexed (I .high) (I .edgeCount) l
+  lower-indexed e = indexed-as e (highs-indexed s (w .readable) ends-at (ap (_*_ 2) (w .edges)))
 
-  pub higher-indexed : Indexed (I .low) (I .edgeCount) (edgesBy s c 0)
-  higher-indexed = let e : n + 5 * c .positions + 0 ≡ endsAt s = omega (arith, ends-at) in lows-indexed s (w .readable) e (ap (_*_ 2) (w .edges))
+  pub higher-indexed : {l : List ℕ} → l ≡ edgesBy s c 0 → Indexed (I .low) (I .edgeCount) l
+  higher-indexed e = let a : n + 5 * c .positions + 0 ≡ endsAt s = omega (arith, ends-at) in indexed-as e (lows-indexed s (w .readable) a (ap (_*_ 2) (w .edges)))
 
   module _ {lower higher : List ℕ} (x : Indexed (I .high) (I .edgeCount) lower) (y : Indexed (I .low) (I .edgeCount) higher) where
     -- at most 64 edges of a node
@@ -130,8 +134,8 @@ module _ {s : List ℕ} {c : Counts} (w : Swept s c) where
 
   -- ---- the places by their labels
 
-  pub places-indexed : Indexed (I .label) (nodeCells I) (indexOf (take (c .positions) (drop n s)) 1)
-  places-indexed = labels-indexed s (w .readable) (w .nodes) (w .positions)
+  pub places-indexed : {count : ℕ} {l : List ℕ} → count ≡ c .positions → l ≡ indexOf (take count (drop n s)) 1 → Indexed (I .label) (nodeCells I) l
+  places-indexed a e = indexed-as e (labels-indexed s (w .readable) (w .nodes) (a ∙ w .positions))
 
   module _ {places spots : List ℕ} (x : Indexed (I .label) (nodeCells I) places) (m : Spots (byte s) n spots) where
     pub place-rows : Rows places 1024

@@ -20,6 +20,7 @@ use Rattle.instance.specs.Readable.{Proper}
 use Rattle.instance.proofs.Readable.{readable}
 use Rattle.instance.proofs.LaidOut.{low-inside}
 use Rattle.instance.proofs.Indexes.{higher-few, lower-few}
+use Rattle.index.specs.Index.{having}
 use Rattle.rules.specs.Run.{kindOf, Record, records, legalShare, legalEdge, legalPosition, legalMessage}
 use Rattle.rules.specs.Calls.{runOf, Call, rules}
 use Rattle.rules.proofs.Calls.{Under}
@@ -82,22 +83,22 @@ module _ (I : Instance) (p : Proper I) where
   unfolding legalPosition
   position-legal u k h m = and-both (and-both (share-legal (omega arith) (omega arith)) (lt-ltb u (I .nodeCount) h)) (lt-ltb k (I .degree u) m)
 
-  -- an edge to a lower node, and one to a higher
+  -- an edge with u at one end: at the higher, to a lower node; and at the lower, to a higher
+  at-end : (end : ℕ → ℕ) (u : ℕ) → ((e : ℕ) → e < I .edgeCount → end e < I .nodeCount) → ((e : ℕ) → u ≡ end e → (eqb u (I .low e) || eqb u (I .high e)) ≡ true)
+      → {e : ℕ} → Mem e (having end u (I .edgeCount)) → (r : ℕ) → 1 ≤ r → r ≤ 64 → legalEdge I u e r ≡ true
+  at-end end u inside one {e} m r a b =
+      let (k, t) = select-mem (λ e. eqb (end e) u) (range 0 (I .edgeCount)) m in
+      let q = sym (eqb-true (end e) u t) in
+      let h = mem-below k in
+      edge-legal u e r a b (omega (arith, inside e h)) h (one e q)
+
   at-lower : (u : ℕ) {e : ℕ} → Mem e (toLower I u) → (r : ℕ) → 1 ≤ r → r ≤ 64 → legalEdge I u e r ≡ true
   unfolding toLower
-  at-lower u {e} m r a b =
-      let (k, t) = select-mem (λ e. eqb (I .high e) u) (range 0 (I .edgeCount)) m in
-      let q = eqb-true (I .high e) u t in
-      let h = mem-below k in
-      edge-legal u e r a b (omega (arith, p .inside e h)) h (ap (λ (z : Bool). eqb u (I .low e) || z) (eq-eqb u (I .high e) (sym q)) ∙ or-true (eqb u (I .low e)))
+  at-lower u = at-end (I .high) u (p .inside) (λ e q. ap (λ (z : Bool). eqb u (I .low e) || z) (eq-eqb u (I .high e) q) ∙ or-true (eqb u (I .low e)))
 
   at-higher : (u : ℕ) {e : ℕ} → Mem e (toHigher I u) → (r : ℕ) → 1 ≤ r → r ≤ 64 → legalEdge I u e r ≡ true
   unfolding toHigher
-  at-higher u {e} m r a b =
-      let (k, t) = select-mem (λ e. eqb (I .low e) u) (range 0 (I .edgeCount)) m in
-      let q = eqb-true (I .low e) u t in
-      let h = mem-below k in
-      edge-legal u e r a b (omega (arith, low-inside p h)) h (ap (λ (z : Bool). z || eqb u (I .high e)) (eq-eqb u (I .low e) (sym q)))
+  at-higher u = at-end (I .low) u (λ e h. low-inside p h) (λ e q. ap (λ (z : Bool). z || eqb u (I .high e)) (eq-eqb u (I .low e) q))
 
   rounding-legal : every good rounding ≡ true
   unfolding every rounding legalKind kindOf

@@ -14,7 +14,7 @@ use Rattle.instance.specs.Readable.{Proper}
 use Rattle.instance.proofs.LaidOut.{low-inside}
 use Rattle.index.proofs.Lists.{length-map}
 use Rattle.schedule.specs.Sweep.{Entry, entry, bytes, each, falling, fromEdges, toEdges, toLabels, fromLabel, rounding, toLower, toHigher, positions, labelled, forwardAt, forward, labelAt, backwardAt, backward, sweep, sweepRecords, sweepLength}
-use Rattle.schedule.proofs.WritingLaws.{each-next, length-bytes, length-toEdges}
+use Rattle.schedule.proofs.WritingLaws.{each-next, length-bytes, length-toEdges, length-toLabels}
 use Rattle.schedule.proofs.CountLaws.{offset-ext, offset-add, offset-swap, by-value}
 
 -- ---- parts
@@ -42,14 +42,13 @@ length-falling f (suc n) = let ih = length-falling f n in let a = length-append 
 
 module _ (I : Instance) where
   length-forwardAt : (u : ℕ) → length (forwardAt I u) ≡ length (toLower I u) + (length (toHigher I u) + I .degree u)
-  unfolding forwardAt fromEdges toLabels positions
+  unfolding forwardAt fromEdges positions
   length-forwardAt u =
-      let a = length-append (map (λ e. entry 2 u e 1) (toLower I u)) (toEdges u (length (toHigher I u) + 1) (toHigher I u) ++ map (λ k. entry 3 u k 1) (range 0 (I .degree u))) in
-      let b = length-append (toEdges u (length (toHigher I u) + 1) (toHigher I u)) (map (λ k. entry 3 u k 1) (range 0 (I .degree u))) in
+      let a = length-append (map (λ e. entry 2 u e 1) (toLower I u)) (toEdges u (length (toHigher I u) + 1) (toHigher I u) ++ toLabels u (range 0 (I .degree u))) in
+      let b = length-append (toEdges u (length (toHigher I u) + 1) (toHigher I u)) (toLabels u (range 0 (I .degree u))) in
       let c = length-map (λ e. entry 2 u e 1) (toLower I u) in
       let d = length-toEdges u (length (toHigher I u) + 1) (toHigher I u) in
-      let e = length-map (λ k. entry 3 u k 1) (range 0 (I .degree u)) in
-      let f = length-range 0 (I .degree u) in
+      let e = length-toLabels u (I .degree u) in
       omega arith
 
   length-backwardAt : (u : ℕ) → length (backwardAt I u) ≡ length (toLower I u) + length (toHigher I u)

@@ -13,7 +13,7 @@ use Rattle.integers.proofs.Places.{length-range}
 use Rattle.integers.proofs.Ranges.{range-add}
 use Rattle.index.specs.Index.{many, held}
 use Rattle.index.proofs.Lists.{length-map}
-use Rattle.schedule.specs.Sweep.{Entry, entry, bytes, each, falling, fromEdges, toEdges}
+use Rattle.schedule.specs.Sweep.{Entry, entry, bytes, each, falling, fromEdges, toEdges, toLabels}
 use Rattle.schedule.specs.Writing.{Writing, Wrote, Room, received, sent, spotted, labelBy}
 
 -- ---- bytes
@@ -42,6 +42,10 @@ pub length-toEdges : (u q : ℕ) (l : List ℕ) → length (toEdges u q l) ≡ l
 unfolding toEdges
 length-toEdges u q [] = refl
 length-toEdges u q (e ∷ l) = ap suc (length-toEdges u _ l)
+
+pub length-toLabels : (u degree : ℕ) → length (toLabels u (range 0 degree)) ≡ degree
+unfolding toLabels
+length-toLabels u degree = length-map (λ k. entry 3 u k 1) (range 0 degree) ∙ length-range 0 degree
 
 pub length-received : (edges : List ℕ) (u : ℕ) → length (received edges u) ≡ many edges u
 unfolding fromEdges
@@ -193,26 +197,26 @@ rest-start index l =
     let d : many index l ≡ many index l - 0 = omega arith in
     ap₂ (λ (a n : ℕ). map (λ p. getD index p 0) (range a n)) e d
 
-pub rest-more : (index : List ℕ) (l j : ℕ) → j < many index l → rest index l j ≡ getD index (65 * l + 1 + j) 0 ∷ rest index l (j + 1)
+-- with e as the j-th
+pub rest-more : (index : List ℕ) (l j : ℕ) {e : ℕ} → j < many index l → e ≡ getD index (65 * l + 1 + j) 0 → rest index l j ≡ e ∷ rest index l (j + 1)
 unfolding range
-rest-more index l j h =
+rest-more index l j h x =
     let e : many index l - j ≡ suc (many index l - (j + 1)) = omega arith in
     let d : suc (65 * l + 1 + j) ≡ 65 * l + 1 + (j + 1) = omega arith in
     ap (λ (n : ℕ). map (λ p. getD index p 0) (range (65 * l + 1 + j) n)) e
-    ∙ ap (λ (a : ℕ). getD index (65 * l + 1 + j) 0 ∷ map (λ p. getD index p 0) (range a (many index l - (j + 1)))) d
+    ∙ ap₂ (λ (e a : ℕ). e ∷ map (λ p. getD index p 0) (range a (many index l - (j + 1)))) (sym x) d
 
 pub rest-end : (index : List ℕ) (l j : ℕ) → many index l ≤ j → rest index l j ≡ []
 unfolding range
 rest-end index l j h = let e : many index l - j ≡ 0 = omega arith in ap (λ (n : ℕ). map (λ p. getD index p 0) (range (65 * l + 1 + j) n)) e
 
 -- with shares that fall along it
-pub shares-more : (index : List ℕ) (u j more : ℕ) → j < many index u
-    → toEdges u (many index u - j + more) (rest index u j) ≡ entry 1 u (getD index (65 * u + 1 + j) 0) (many index u - j + more) ∷ toEdges u (many index u - (j + 1) + more) (rest index u (j + 1))
+pub shares-more : (index : List ℕ) (u j more : ℕ) {e : ℕ} → j < many index u → e ≡ getD index (65 * u + 1 + j) 0
+    → toEdges u (many index u - j + more) (rest index u j) ≡ entry 1 u e (many index u - j + more) ∷ toEdges u (many index u - (j + 1) + more) (rest index u (j + 1))
 unfolding toEdges
-shares-more index u j more h =
-    let e : many index u - j + more - 1 ≡ many index u - (j + 1) + more = omega arith in
-    let x = getD index (65 * u + 1 + j) 0 in
-    ap (toEdges u (many index u - j + more)) (rest-more index u j h) ∙ ap (λ (q : ℕ). entry 1 u x (many index u - j + more) ∷ toEdges u q (rest index u (j + 1))) e
+shares-more index u j more {e} h x =
+    let d : many index u - j + more - 1 ≡ many index u - (j + 1) + more = omega arith in
+    ap (toEdges u (many index u - j + more)) (rest-more index u j h x) ∙ ap (λ (q : ℕ). entry 1 u e (many index u - j + more) ∷ toEdges u q (rest index u (j + 1))) d
 
 -- ---- a loop that writes a list for each of some numbers: k are left, and after the turn of i, l
 

@@ -1,5 +1,5 @@
 -- `from_edges` meets its contract: a record for each edge of the row.
-use mathlib.Core.Path.{_≡_, sym, ap, _∙_}
+use mathlib.Core.Path.{_≡_, sym, ap}
 use mathlib.Core.List.{List, _∷_, map}
 use Prim.Native.Nat.{ℕ, _+_, _-_, _≤_, _<_}
 use native.Mathlib.Omega.{arith}
@@ -42,7 +42,7 @@ module _ (p : tie.After-thing Inv-loop μ-loop) where
   more = omega (arith, i .loop-test .taken, i .before .before .many .ensures)
 
   next : map (f u) (rest edges u j) ≡ f u (p .thing .result) ∷ map (f u) (rest edges u (j + 1))
-  next = ap (map (f u)) (rest-more edges u j more) ∙ ap (λ (e : ℕ). f u e ∷ map (f u) (rest edges u (j + 1))) (sym (p .thing .ensures .0))
+  next = ap (map (f u)) (rest-more edges u j more (p .thing .ensures .0))
 
 many-requires : tie.Need-many-requires Inv-loop μ-loop
 many-requires c κs = c .before .pre .0 .0

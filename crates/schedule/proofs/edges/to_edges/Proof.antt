@@ -43,8 +43,8 @@ module _ (p : tie.After-thing Inv-loop μ-loop) where
 
   next : left j ≡ entry 1 u (p .thing .result) (i .before .before .many .result - j + q .args .more) ∷ left (j + 1)
   next =
-      shares-more edges u j (q .args .more) more
-      ∙ ap₂ (λ (e m : ℕ). entry 1 u e (m - j + q .args .more) ∷ left (j + 1)) (sym (p .thing .ensures .0)) (sym (i .before .before .many .ensures))
+      shares-more edges u j (q .args .more) more (p .thing .ensures .0)
+      ∙ ap (λ (m : ℕ). entry 1 u (p .thing .result) (m - j + q .args .more) ∷ left (j + 1)) (sym (i .before .before .many .ensures))
 
 many-requires : tie.Need-many-requires Inv-loop μ-loop
 many-requires c κs = c .before .pre .0 .0

@@ -5,7 +5,6 @@ use Prim.Native.Nat.{ℕ, _+_, _-_, _/_, _%_, _≤_, _<_}
 use native.Mathlib.Omega.{arith}
 use borrow.Author.Needs.{needs}
 use denote.Ref.{now}
-use lib.ListN.{getD}
 use Rattle.index.specs.Index.{many as manyOf}
 use Rattle.schedule.specs.Sweep.{entry}
 use Rattle.schedule.specs.Writing.{Writing, spotted, labelBy}
@@ -46,8 +45,8 @@ next : (n : tie.After-number Inv-loop μ-loop) → let i = n .before .before .be
 next n =
     let i = n .before .before .before in
     let spots = now (q i .args .spots) in
-    let e = n .number .ensures .0 ∙ ap (λ (p : ℕ). getD spots p 0) (n .before .before .thing .ensures .0) in
-    ap (map (spotted spots)) (rest-more (places i) (label i) (j i) (more i)) ∙ ap (λ (x : ℕ). entry 4 (x % 256) (x / 256) 1 ∷ map (spotted spots) (rest (places i) (label i) (j i + 1))) (sym e)
+    ap (map (spotted spots)) (rest-more (places i) (label i) (j i) (more i) (n .before .before .thing .ensures .0))
+    ∙ ap (λ (x : ℕ). entry 4 (x % 256) (x / 256) 1 ∷ map (spotted spots) (rest (places i) (label i) (j i + 1))) (sym (n .number .ensures .0))
 
 many-requires : tie.Need-many-requires Inv-loop μ-loop
 many-requires c κs = c .before .pre .1 .0

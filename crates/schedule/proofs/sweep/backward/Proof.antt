@@ -1,7 +1,6 @@
 -- `backward` meets its contract: the labels' lists, the nodes' lists, and then the rounding.
-use mathlib.Core.Path.{_≡_, sym, ap, subst}
+use mathlib.Core.Path.{_≡_, sym, ap}
 use mathlib.Core.List.{List, _++_}
-use Prim.Native.Nat.{ℕ}
 use native.Mathlib.Omega.{arith}
 use denote.Ref.{now}
 use lib.ListN.{length}
@@ -40,7 +39,7 @@ module _ (x : tie.After-edges-by) where
   start = x .before .before .before
 
   higher : Indexed (I start .low) (I start .edgeCount) (x .edges-by .result)
-  higher = subst (λ (l : List ℕ). Indexed (I start .low) (I start .edgeCount) l) (sym (x .edges-by .ensures)) (higher-indexed (start .pre .0))
+  higher = higher-indexed (start .pre .0) (x .edges-by .ensures)
 
   lists : each (backwardBy (now (start .args .lower)) (x .edges-by .result)) (falling (start .args .counts .nodes)) ≡ nodes start
   lists = backward-nodes (start .pre .0) (lower start) higher

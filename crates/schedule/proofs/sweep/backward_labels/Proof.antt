@@ -1,13 +1,12 @@
 -- `backward_labels` meets its contract: the labels' lists by the places that have them.
-use mathlib.Core.Path.{_≡_, sym, ap, _∙_, subst}
-use mathlib.Core.List.{List}
-use Prim.Native.Nat.{ℕ, _+_, _-_}
+use mathlib.Core.Path.{_≡_, sym, ap}
+use Prim.Native.Nat.{_+_, _-_}
 use native.Mathlib.Omega.{arith}
 use denote.Ref.{now}
-use lib.ListN.{length, take, drop}
+use lib.ListN.{length}
 use Rattle.instance.specs.Instance.{Instance, nodeCells}
 use Rattle.instance.specs.Sheet.{instanceOf}
-use Rattle.index.specs.Index.{indexOf, Indexed}
+use Rattle.index.specs.Index.{Indexed}
 use Rattle.schedule.specs.Sweep.{each, falling, labelAt}
 use Rattle.schedule.specs.Writing.{labelBy}
 use Rattle.schedule.proofs.WritingLaws.{room-as, writing-for}
@@ -28,7 +27,7 @@ module _ (x : tie.After-spots) where
   placed =
       let a = start .args .counts in
       let e : a .nodes + a .positions - a .nodes ≡ a .positions = omega arith in
-      subst (λ (l : List ℕ). Indexed (I .label) (nodeCells I) l) (sym (x .before .index-by .ensures ∙ ap (λ (m : ℕ). indexOf (take m (drop (a .nodes) (now (start .args .sheet)))) 1) e)) (places-indexed (start .pre .0))
+      places-indexed (start .pre .0) e (x .before .index-by .ensures)
 
   lists : each (labelBy (x .before .index-by .result) (x .spots .result)) (falling (start .args .counts .labels)) ≡ each (labelAt I) (falling (I .labelCount))
   lists = label-lists (start .pre .0) placed (x .spots .ensures)

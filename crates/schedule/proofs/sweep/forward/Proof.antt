@@ -1,7 +1,6 @@
 -- `forward` meets its contract: the nodes' lists, and then the rounding.
-use mathlib.Core.Path.{_≡_, sym, ap, subst}
+use mathlib.Core.Path.{_≡_, sym, ap}
 use mathlib.Core.List.{List, _++_}
-use Prim.Native.Nat.{ℕ}
 use native.Mathlib.Omega.{arith}
 use denote.Ref.{now}
 use lib.ListN.{length}
@@ -38,7 +37,7 @@ module _ (x : tie.After-edges-by) where
   start = x .before .before .before
 
   higher : Indexed (I start .low) (I start .edgeCount) (x .edges-by .result)
-  higher = subst (λ (l : List ℕ). Indexed (I start .low) (I start .edgeCount) l) (sym (x .edges-by .ensures)) (higher-indexed (start .pre .0))
+  higher = higher-indexed (start .pre .0) (x .edges-by .ensures)
 
   lists : each (forwardBy (now (start .args .sheet)) (now (start .args .lower)) (x .edges-by .result)) (range 0 (start .args .counts .nodes)) ≡ nodes start
   lists = forward-nodes (start .pre .0) (lower start) higher

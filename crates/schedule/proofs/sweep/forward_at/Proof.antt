@@ -1,16 +1,13 @@
 -- `forward_at` meets its contract: three lists, one after another.
-use mathlib.Core.Path.{_≡_, sym, _∙_}
+use mathlib.Core.Path.{sym, _∙_}
 use mathlib.Core.List.{List, _++_}
 use native.Mathlib.Omega.{arith}
 use denote.Ref.{now}
-use lib.ListN.{length}
 use Rattle.integers.specs.Places.{range}
-use Rattle.integers.proofs.Places.{length-range}
 use Rattle.instance.specs.Bytes.{byte}
-use Rattle.index.proofs.Lists.{length-map}
-use Rattle.schedule.specs.Sweep.{Entry, entry, toLabels}
+use Rattle.schedule.specs.Sweep.{Entry, toLabels}
 use Rattle.schedule.specs.Writing.{received, sent}
-use Rattle.schedule.proofs.WritingLaws.{length-received, length-sent, room-as, room-left, room-right, wrote-append}
+use Rattle.schedule.proofs.WritingLaws.{length-toLabels, length-received, length-sent, room-as, room-left, room-right, wrote-append}
 use borrow.Author.Needs.{needs}
 use Rattle.schedule.proofs.sweep.forward_at.Statement.{statement}
 use Rattle.schedule.proofs.sweep.forward_at.Tie as tie
@@ -24,10 +21,6 @@ module _ (q : tie.Start) where
 
   abbrev third : List Entry
   third = toLabels (q .args .u) (range 0 (byte (now (q .args .sheet)) (q .args .u)))
-
-  third-size : length third ≡ byte (now (q .args .sheet)) (q .args .u)
-  unfolding toLabels
-  third-size = let d = byte (now (q .args .sheet)) (q .args .u) in length-map (λ k. entry 3 (q .args .u) k 1) (range 0 d) ∙ length-range 0 d
 
 from-edges-requires : tie.Need-from-edges-requires
 from-edges-requires c κs =
@@ -52,7 +45,7 @@ to-labels-requires c κs =
     let q = c .before .before .before .before .before .before .before .before .before .before .before .before .before in
     let r = room-right (first q) (second q ++ third q) (c .before .before .before .before .before .before .before .before .before .from-edges .ensures) (q .pre .1 .1 .1) in
     let d = c .before .wide .ensures in
-    ((omega (arith, d), omega (arith, q .pre .1 .1 .0)), room-as (third-size q ∙ sym (d .0)) (room-right (second q) (third q) (c .before .before .before .before .before .to-edges .ensures) r))
+    ((omega (arith, d), omega (arith, q .pre .1 .1 .0)), room-as (length-toLabels (q .args .u) (byte (now (q .args .sheet)) (q .args .u)) ∙ sym (d .0)) (room-right (second q) (third q) (c .before .before .before .before .before .to-edges .ensures) r))
 
 same-length : tie.Need-same-length
 same-length c = search needs

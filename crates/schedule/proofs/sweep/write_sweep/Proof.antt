@@ -1,5 +1,5 @@
 -- `write_sweep` meets its contract: refused, nothing is altered; else the buffer holds the sweep.
-use mathlib.Core.Path.{_≡_, sym, ap, _∙_, subst}
+use mathlib.Core.Path.{_≡_, sym, ap, _∙_}
 use mathlib.Core.List.{List}
 use Prim.Native.Nat.{ℕ, _+_, _*_}
 use native.Mathlib.Omega.{arith}
@@ -93,7 +93,7 @@ module _ (x : tie.After-edges-by) where
   p = x .before .before .before .before .before
 
   lower : Indexed (instanceOf (s p) .high) (instanceOf (s p) .edgeCount) (x .edges-by .result)
-  lower = subst (λ (l : List ℕ). Indexed (instanceOf (s p) .high) (instanceOf (s p) .edgeCount) l) (sym (x .edges-by .ensures)) (lower-indexed (handed p))
+  lower = lower-indexed (handed p) (x .edges-by .ensures)
 
   fit : length (out p) ≡ sweepLength (instanceOf (s p))
   fit = x .before .if3 .left ∙ size-is p
