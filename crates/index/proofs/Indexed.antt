@@ -80,6 +80,9 @@ indexed-part s from size stride {key} {m} fits all each few keys roomy =
 
 -- ---- its rows
 
+pub length-held : (index : List ℕ) (l : ℕ) → length (held index l) ≡ many index l
+length-held index l = length-map (range (65 * l + 1) (many index l)) (λ j. getD index j 0) ∙ length-range (65 * l + 1) (many index l)
+
 -- a row has as many things as there are
 pub many-is : {key : ℕ → ℕ} {m : ℕ} {index : List ℕ} → Indexed key m index → (l : ℕ) → l < 64 → many index l ≡ length (having key l m)
-many-is {key} {m} {index} x l h = sym (ap length (sym (x .rows l h)) ∙ length-map (range (65 * l + 1) (many index l)) (λ j. getD index j 0) ∙ length-range (65 * l + 1) (many index l))
+many-is {index = index} x l h = sym (ap length (sym (x .rows l h)) ∙ length-held index l)

@@ -2,7 +2,7 @@
 -- Assumes nothing.
 use mathlib.Core.Path.{_≡_, refl, sym, ap, ap₂, _∙_}
 use mathlib.Core.Bool.{Bool}
-use mathlib.Core.List.{List, _∷_, _++_, map}
+use mathlib.Core.List.{List, _∷_, _++_, map, map-append}
 use Prim.Native.Nat.{ℕ, zero, suc, _+_, _<_}
 use native.Mathlib.Omega.{arith}
 use lib.Dec.{eqb}
@@ -11,7 +11,6 @@ use Rattle.integers.proofs.Places.{by-test}
 use Rattle.integers.proofs.Ranges.{range-add, select-append}
 use Rattle.instance.specs.Instance.{Instance, first}
 use Rattle.index.specs.Index.{having}
-use Rattle.index.proofs.Lists.{append-map}
 use Rattle.schedule.specs.Sweep.{Entry, each, positions, labelled}
 use Rattle.schedule.proofs.WritingLaws.{each-next}
 
@@ -39,4 +38,4 @@ module _ (I : Instance) (l : ℕ) where
       ∙ ap₂ _++_ (label-list g f n (λ u k b. h u k (omega arith))) (sym (ap (λ (i : ℕ). map g (select t (range i (I .degree n)))) z ∙ shifted g (f n) t a 0 (I .degree n) (λ k b. h n k (omega arith) (omega arith))))
       ∙ sym (ap (λ (k : List ℕ). map g (select t k)) (range-add 0 a (I .degree n))
       ∙ ap (map g) (select-append t (range 0 a) (range (0 + a) (I .degree n)))
-      ∙ append-map g (select t (range 0 a)) (select t (range (0 + a) (I .degree n))))
+      ∙ map-append g (select t (range 0 a)) (select t (range (0 + a) (I .degree n))))

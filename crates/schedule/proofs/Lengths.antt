@@ -6,13 +6,12 @@ use mathlib.Core.List.{List·Memᴰ as Mem, List·Memᴰ·head as here, List·Me
 use Prim.Native.Nat.{ℕ, zero, suc, _+_, _*_, _<_}
 use native.Mathlib.Omega.{arith}
 use lib.Dec.{eqb}
-use lib.ListN.{length, length-append}
+use lib.ListN.{length, length-append, length-map}
 use Rattle.integers.specs.Places.{range, offset}
 use Rattle.integers.proofs.Places.{by-cond, range-mem, length-range}
 use Rattle.instance.specs.Instance.{Instance, first, nodeCells}
 use Rattle.instance.specs.Readable.{Proper}
 use Rattle.instance.proofs.LaidOut.{low-inside}
-use Rattle.index.proofs.Lists.{length-map}
 use Rattle.schedule.specs.Sweep.{Entry, entry, bytes, each, falling, fromEdges, toEdges, toLabels, fromLabel, rounding, toLower, toHigher, positions, labelled, forwardAt, forward, labelAt, backwardAt, backward, sweep, sweepRecords, sweepLength}
 use Rattle.schedule.proofs.WritingLaws.{each-next, length-bytes, length-toEdges, length-toLabels}
 use Rattle.schedule.proofs.CountLaws.{offset-ext, offset-add, offset-swap, by-value}
@@ -46,7 +45,7 @@ module _ (I : Instance) where
   length-forwardAt u =
       let a = length-append (map (λ e. entry 2 u e 1) (toLower I u)) (toEdges u (length (toHigher I u) + 1) (toHigher I u) ++ toLabels u (range 0 (I .degree u))) in
       let b = length-append (toEdges u (length (toHigher I u) + 1) (toHigher I u)) (toLabels u (range 0 (I .degree u))) in
-      let c = length-map (λ e. entry 2 u e 1) (toLower I u) in
+      let c = length-map (toLower I u) (λ e. entry 2 u e 1) in
       let d = length-toEdges u (length (toHigher I u) + 1) (toHigher I u) in
       let e = length-toLabels u (I .degree u) in
       omega arith
@@ -55,7 +54,7 @@ module _ (I : Instance) where
   unfolding backwardAt fromEdges
   length-backwardAt u =
       let a = length-append (map (λ e. entry 2 u e 1) (toHigher I u)) (toEdges u (length (toLower I u)) (toLower I u)) in
-      let b = length-map (λ e. entry 2 u e 1) (toHigher I u) in
+      let b = length-map (toHigher I u) (λ e. entry 2 u e 1) in
       let c = length-toEdges u (length (toLower I u)) (toLower I u) in
       omega arith
 
@@ -63,7 +62,7 @@ module _ (I : Instance) where
   unfolding labelAt fromLabel
   length-labelAt l =
       length-rising (λ u. map (λ k. entry 4 u k 1) (labelled I l u)) (I .nodeCount)
-      ∙ offset-ext (I .nodeCount) (λ u. length (map (λ k. entry 4 u k 1) (labelled I l u))) (λ u. length (labelled I l u)) (λ u _. length-map (λ k. entry 4 u k 1) (labelled I l u))
+      ∙ offset-ext (I .nodeCount) (λ u. length (map (λ k. entry 4 u k 1) (labelled I l u))) (λ u. length (labelled I l u)) (λ u _. length-map (labelled I l u) (λ k. entry 4 u k 1))
 
   length-rounding : length rounding ≡ 1
   unfolding rounding

@@ -6,13 +6,13 @@ use mathlib.Core.List.{List·Memᴰ as Mem, List·Memᴰ·head as here, List·Me
 use Prim.Native.Nat.{ℕ, suc, _+_, _-_, _*_, _/_, _%_, _≤_, _<_}
 use native.Mathlib.Numerals.{add-one}
 use native.Mathlib.Omega.{arith}
-use lib.ListN.{length, getD, set, length-append, drop-of-length-le}
+use lib.ListN.{length, getD, set, length-append, drop-of-length-le, length-map}
 use lib.Seq.{sets, sets-eq, length-sets}
 use Rattle.integers.specs.Places.{range}
 use Rattle.integers.proofs.Places.{length-range}
 use Rattle.integers.proofs.Ranges.{range-add}
 use Rattle.index.specs.Index.{many, held}
-use Rattle.index.proofs.Lists.{length-map}
+use Rattle.index.proofs.Indexed.{length-held}
 use Rattle.schedule.specs.Sweep.{Entry, entry, bytes, each, falling, fromEdges, toEdges, toLabels}
 use Rattle.schedule.specs.Writing.{Writing, Wrote, Room, received, sent, spotted, labelBy}
 
@@ -35,9 +35,6 @@ sets-append out at (b ∷ k) l = let e : suc at + length k ≡ at + suc (length 
 
 -- ---- how many records
 
-pub length-held : (index : List ℕ) (l : ℕ) → length (held index l) ≡ many index l
-length-held index l = length-map (λ p. getD index p 0) (range (65 * l + 1) (many index l)) ∙ length-range (65 * l + 1) (many index l)
-
 pub length-toEdges : (u q : ℕ) (l : List ℕ) → length (toEdges u q l) ≡ length l
 unfolding toEdges
 length-toEdges u q [] = refl
@@ -45,17 +42,17 @@ length-toEdges u q (e ∷ l) = ap suc (length-toEdges u _ l)
 
 pub length-toLabels : (u degree : ℕ) → length (toLabels u (range 0 degree)) ≡ degree
 unfolding toLabels
-length-toLabels u degree = length-map (λ k. entry 3 u k 1) (range 0 degree) ∙ length-range 0 degree
+length-toLabels u degree = length-map (range 0 degree) (λ k. entry 3 u k 1) ∙ length-range 0 degree
 
 pub length-received : (edges : List ℕ) (u : ℕ) → length (received edges u) ≡ many edges u
 unfolding fromEdges
-length-received edges u = length-map (λ e. entry 2 u e 1) (held edges u) ∙ length-held edges u
+length-received edges u = length-map (held edges u) (λ e. entry 2 u e 1) ∙ length-held edges u
 
 pub length-sent : (edges : List ℕ) (more u : ℕ) → length (sent edges more u) ≡ many edges u
 length-sent edges more u = length-toEdges u (many edges u + more) (held edges u) ∙ length-held edges u
 
 pub length-label : (places spots : List ℕ) (l : ℕ) → length (labelBy places spots l) ≡ many places l
-length-label places spots l = length-map (spotted spots) (held places l) ∙ length-held places l
+length-label places spots l = length-map (held places l) (spotted spots) ∙ length-held places l
 
 pub room-as : {out : List ℕ} {at a b : ℕ} → a ≡ b → Room out at a → Room out at b
 room-as e r = record { fits = omega (arith, e, r .fits) }

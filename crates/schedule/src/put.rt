@@ -1,5 +1,4 @@
 // One record's bytes.
-ghost use mathlib.Core.Path.{_≡_};
 ghost use Prim.Native.Nat.{_<_};
 ghost use mathlib.Core.List.{[], _∷_};
 ghost use Rattle.schedule.specs.Sweep.{entry};

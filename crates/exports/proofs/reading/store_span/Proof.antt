@@ -45,13 +45,13 @@ add-prices-2 : tie.Need-add-prices-2
 add-prices-2 c = omega (arith, few (c .before .before .before .before .before))
 
 table-at-requires : tie.Need-table-at-requires
-table-at-requires c κs = few (c .before .before .before .before .before .before) .edgesFew
+table-at-requires c κs = few (c .before .before .before .before .before) .edgesFew
 
 add-table-at : tie.Need-add-table-at
 add-table-at c = search needs
 
 table-at-requires-2 : tie.Need-table-at-requires-2
-table-at-requires-2 c κs = few (c .before .before .before .before .before .before .before) .edgesFew
+table-at-requires-2 c κs = few (c .before .before .before .before .before .before) .edgesFew
 
 mul-t11 : tie.Need-mul-t11
 mul-t11 c = omega (arith, ends c)
