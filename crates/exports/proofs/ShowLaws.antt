@@ -38,7 +38,7 @@ module _ (s : List ℕ) {l : Layout} {e : ℕ} (q : (l ≡ layoutOf s) × (l .re
 -- ---- what is shown of an edge
 
 -- two ends of a table, so small that no sum of them wraps
-pub record Sized (s : List ℕ) (e from to : ℕ) : Type 0 where
+pub record TableEnds (s : List ℕ) (e from to : ℕ) : Type 0 where
   pub small : from ≤ 4_096
   pub size : to ≡ from + tableSize (I s) e
   pub few : tableSize (I s) e ≤ 256
@@ -47,7 +47,7 @@ module _ (s : List ℕ) {l : Layout} {e : ℕ} (a : EdgeAsked s l e) where
   pub known : LaidOut s l
   known = laid s a
 
-  pub sized : {from to : ℕ} → from ≡ table (I s) e → to ≡ table (I s) (e + 1) → Sized s e from to
+  pub sized : {from to : ℕ} → from ≡ table (I s) e → to ≡ table (I s) (e + 1) → TableEnds s e from to
   unfolding table
   sized f t = record {
     small = omega (arith, f, table-inside (instanceOf s) (there s a), known .sound .proper .cellsFew);
@@ -59,7 +59,7 @@ module _ (s : List ℕ) {l : Layout} {e : ℕ} (a : EdgeAsked s l e) where
   unfolding edgeFrom first instanceOf
   from-by f = omega (arith, known .nodes, known .positions, known .edges, f)
 
-  bytes-by : {from to : ℕ} → Sized s e from to → 4 * (to - from) ≡ edgeBytes s e
+  bytes-by : {from to : ℕ} → TableEnds s e from to → 4 * (to - from) ≡ edgeBytes s e
   unfolding edgeBytes
   bytes-by z = omega (arith, z)
 

@@ -101,16 +101,16 @@ over-zeros f g m n h p q =
 
 -- ---- a loop that writes f of its place into each of the first n places of m: after k of them
 
-pub record Written (f : ℕ → ℤ) (n : ℕ) (m : List ℤ) (k : ℕ) (l : List ℤ) : Type 0 where
+pub record Overwritten (f : ℕ → ℤ) (n : ℕ) (m : List ℤ) (k : ℕ) (l : List ℤ) : Type 0 where
   pub inside : k ≤ n
   pub room : n ≤ length m
   pub told : l ≡ over f k m
 
-pub written-none : (f : ℕ → ℤ) (n : ℕ) (m : List ℤ) → n ≤ length m → Written f n m 0 m
+pub written-none : (f : ℕ → ℤ) (n : ℕ) (m : List ℤ) → n ≤ length m → Overwritten f n m 0 m
 unfolding over tabulate range
 written-none f n m h = record { inside = omega arith; room = h; told = refl }
 
-module _ {f : ℕ → ℤ} {n : ℕ} {m : List ℤ} {k : ℕ} {l : List ℤ} (w : Written f n m k l) where
+module _ {f : ℕ → ℤ} {n : ℕ} {m : List ℤ} {k : ℕ} {l : List ℤ} (w : Overwritten f n m k l) where
   pub written-length : length l ≡ length m
   written-length = ap length (w .told) ∙ length-over f k m (omega arith)
 
@@ -121,10 +121,10 @@ module _ {f : ℕ → ℤ} {n : ℕ} {m : List ℤ} {k : ℕ} {l : List ℤ} (w 
   pub written-drop : drop k l ≡ drop k m
   written-drop = ap (drop k) (w .told) ∙ over-drop f k m
 
-  pub written-more : k < n → {v : ℤ} → v ≡ f k → Written f n m (k + 1) (set l k v)
+  pub written-more : k < n → {v : ℤ} → v ≡ f k → Overwritten f n m (k + 1) (set l k v)
   written-more h e = record { inside = omega arith; room = w .room; told = ap₂ (λ (t : List ℤ) (z : ℤ). set t k z) (w .told) e ∙ over-more f k m (omega arith) }
 
-  pub written-part : (a : ℕ) → k + a ≤ n → (p : List ℤ) → length p ≡ a → ((j : ℕ) → j < a → getD p j (pos 0) ≡ f (k + j)) → Written f n m (k + a) (putMid k a l p)
+  pub written-part : (a : ℕ) → k + a ≤ n → (p : List ℤ) → length p ≡ a → ((j : ℕ) → j < a → getD p j (pos 0) ≡ f (k + j)) → Overwritten f n m (k + a) (putMid k a l p)
   written-part a h p e q = record { inside = h; room = w .room; told = ap (λ (t : List ℤ). putMid k a t p) (w .told) ∙ over-part f k m a p e q }
 
   pub written-all : n ≤ k → l ≡ over f n m
@@ -133,7 +133,7 @@ module _ {f : ℕ → ℤ} {n : ℕ} {m : List ℤ} {k : ℕ} {l : List ℤ} (w 
 -- ---- the same where a of its place is added to each place of m
 
 abbrev pub Raised : (ℕ → ℤ) → List ℤ → ℕ → List ℤ → Type 0
-Raised a m k l = Written (λ j. getD m j (pos 0) +ℤ a j) (length m) m k l
+Raised a m k l = Overwritten (λ j. getD m j (pos 0) +ℤ a j) (length m) m k l
 
 module _ (a : ℕ → ℤ) {m : List ℤ} {k : ℕ} {l : List ℤ} (w : Raised a m k l) where
   -- such a sum fits

@@ -7,7 +7,7 @@ use denote.Ref.{now}
 use Rattle.instance.specs.Instance.{table}
 use Rattle.instance.specs.Sheet.{instanceOf}
 use Rattle.instance.proofs.LaidOut.{LaidOut}
-use Rattle.exports.proofs.ShowLaws.{Sized, table-in, known, sized, span-by}
+use Rattle.exports.proofs.ShowLaws.{TableEnds, table-in, known, sized, span-by}
 use borrow.Author.Needs.{needs}
 use Rattle.exports.proofs.reading.store_span.Statement.{statement}
 use Rattle.exports.proofs.reading.store_span.Tie as tie
@@ -29,7 +29,7 @@ module _ (p : tie.After-table-at2) where
   to-is : p .table-at2 .result ≡ table (instanceOf s) (start .args .edge + 1)
   to-is = let a = start .pre .0 in p .table-at2 .ensures ∙ table-in s (a .answer, a .sound, omega (arith, a .there))
 
-  ends : Sized s (start .args .edge) (p .before .table-at .result) (p .table-at2 .result)
+  ends : TableEnds s (start .args .edge) (p .before .table-at .result) (p .table-at2 .result)
   ends = sized s (start .pre .0) from-is to-is
 
 mul-prices : tie.Need-mul-prices

@@ -5,13 +5,13 @@ use mathlib.Core.Bool.{cond}
 use borrow.Author.Needs.{needs}
 use Rattle.integers.proofs.Bits.{answer}
 use Rattle.messages.specs.EdgeMessage.{leastAt}
-use Rattle.messages.proofs.OverLaws.{Written, written-none, written-more, written-all}
+use Rattle.messages.proofs.OverLaws.{Overwritten, written-none, written-more, written-all}
 use Rattle.messages.proofs.EdgeLaws.{zeros, positions-few}
 use Rattle.messages.proofs.edge_message.least_by.Statement.{statement}
 use Rattle.messages.proofs.edge_message.least_by.Tie as tie
 
 abbrev Inv-loop : tie.InvT-loop
-Inv-loop cells width height by-row many least₀ k₀ least k = Written (leastAt by-row width cells) (cond by-row height width) zeros k least
+Inv-loop cells width height by-row many least₀ k₀ least k = Overwritten (leastAt by-row width cells) (cond by-row height width) zeros k least
 
 abbrev μ-loop : tie.MeasureT-loop
 μ-loop cells width height by-row many least₀ k₀ least k = many - k

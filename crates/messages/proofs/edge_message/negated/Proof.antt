@@ -9,13 +9,13 @@ use denote.Ref.{now}
 use mir.Facts.{toZ-ofZ}
 use Rattle.integers.proofs.Bits.{same}
 use Rattle.messages.proofs.RowLaws.{from-zero, zero-fits}
-use Rattle.messages.proofs.OverLaws.{Written, written-none, written-more, written-all, over-full}
+use Rattle.messages.proofs.OverLaws.{Overwritten, written-none, written-more, written-all, over-full}
 use Rattle.messages.proofs.EdgeLaws.{zeros}
 use Rattle.messages.proofs.edge_message.negated.Statement.{statement}
 use Rattle.messages.proofs.edge_message.negated.Tie as tie
 
 abbrev Inv-loop : tie.InvT-loop
-Inv-loop amounts taken₀ k₀ taken k = Written (λ j. negℤ (getD amounts j (pos 0))) 16 zeros k taken
+Inv-loop amounts taken₀ k₀ taken k = Overwritten (λ j. negℤ (getD amounts j (pos 0))) 16 zeros k taken
 
 abbrev μ-loop : tie.MeasureT-loop
 μ-loop amounts taken₀ k₀ taken k = 16 - k

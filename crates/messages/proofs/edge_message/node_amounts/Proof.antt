@@ -10,13 +10,13 @@ use mir.Val.{toZ, ofZ}
 use Rattle.integers.specs.Least.{leastOf}
 use Rattle.integers.specs.Share.{shareDown}
 use Rattle.integers.proofs.Bits.{same, answer}
-use Rattle.messages.proofs.OverLaws.{Written, written-none, written-more, written-all}
+use Rattle.messages.proofs.OverLaws.{Overwritten, written-none, written-more, written-all}
 use Rattle.messages.proofs.EdgeLaws.{zeros, node-is, node-above}
 use Rattle.messages.proofs.edge_message.node_amounts.Statement.{statement}
 use Rattle.messages.proofs.edge_message.node_amounts.Tie as tie
 
 abbrev Inv-loop : tie.InvT-loop
-Inv-loop row share low amounts₀ k₀ amounts k = Written (λ j. shareDown (getD row j (pos 0) -ℤ leastOf row) share) (length row) zeros k amounts
+Inv-loop row share low amounts₀ k₀ amounts k = Overwritten (λ j. shareDown (getD row j (pos 0) -ℤ leastOf row) share) (length row) zeros k amounts
 
 abbrev μ-loop : tie.MeasureT-loop
 μ-loop row share low amounts₀ k₀ amounts k = length row - k

@@ -12,12 +12,12 @@ use mir.Facts.{toZ-ofZ}
 use Rattle.integers.specs.Share.{shareDown}
 use Rattle.integers.proofs.Bits.{same, answer}
 use Rattle.messages.specs.EdgeMessage.{over}
-use Rattle.messages.proofs.OverLaws.{Written, written-none, written-next, written-more, written-all}
+use Rattle.messages.proofs.OverLaws.{Overwritten, written-none, written-next, written-more, written-all}
 use Rattle.messages.proofs.edge_message.turn_all.Statement.{statement}
 use Rattle.messages.proofs.edge_message.turn_all.Tie as tie
 
 abbrev Inv-loop : tie.InvT-loop
-Inv-loop least₀ width low share k₀ least k = Written (λ j. negℤ (shareDown (getD least₀ j (pos 0) -ℤ toZ w64 low) share)) width least₀ k least
+Inv-loop least₀ width low share k₀ least k = Overwritten (λ j. negℤ (shareDown (getD least₀ j (pos 0) -ℤ toZ w64 low) share)) width least₀ k least
 
 abbrev μ-loop : tie.MeasureT-loop
 μ-loop least₀ width low share k₀ least k = width - k
