@@ -8,8 +8,8 @@ use denote.Ref.{now}
 use lib.ListN.{length}
 use Rattle.index.specs.Index.{keyAt, Things, entered}
 use Rattle.index.proofs.Filling.{filled, filled-none, filled-more, filled-all, thing-is}
-use Rattle.index.proofs.index_by.Statement.{statement}
-use Rattle.index.proofs.index_by.Tie as tie
+use Rattle.index.proofs.table.index_by.Statement.{statement}
+use Rattle.index.proofs.table.index_by.Tie as tie
 
 abbrev Inv-loop : tie.InvT-loop
 Inv-loop bytes stride index₀ things thing₀ index thing = (thing ≤ things) × (index ≡ filled (keyAt bytes stride) thing)

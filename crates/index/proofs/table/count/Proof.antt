@@ -2,8 +2,8 @@
 use native.Mathlib.Omega.{arith}
 use borrow.Author.Needs.{needs}
 use Rattle.index.proofs.Filling.{counted-none, counted-by, counted-few, counted-most}
-use Rattle.index.proofs.count.Statement.{statement}
-use Rattle.index.proofs.count.Tie as tie
+use Rattle.index.proofs.table.count.Statement.{statement}
+use Rattle.index.proofs.table.count.Tie as tie
 
 returns : tie.Need-returns
 returns c = counted-none (c .before .args .len) (c .before .args .stride) (c .if1 .taken)

@@ -5,8 +5,8 @@ use lib.ListN.{set}
 use denote.Ref.{now}
 use Rattle.index.proofs.Filling.{entered-in, entered-full, entered-past}
 use borrow.Author.Needs.{needs}
-use Rattle.index.proofs.enter.Statement.{statement}
-use Rattle.index.proofs.enter.Tie as tie
+use Rattle.index.proofs.table.enter.Statement.{statement}
+use Rattle.index.proofs.table.enter.Tie as tie
 
 mul-row : tie.Need-mul-row
 mul-row c = search needs
