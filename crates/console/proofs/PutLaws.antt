@@ -11,15 +11,15 @@ use lib.Seq.{length-take-le, take-at, drop-append-add, drop-drop, set-split, app
 use borrow.Author.Tests.{lt-ltb, le-ltb}
 use Rattle.integers.proofs.Places.{if-true, if-false}
 use Rattle.console.specs.Lines.{line}
-use Rattle.console.specs.Output.{outputs, outputOf, written, Put}
+use Rattle.console.specs.Output.{outputs, outputOf, withText, Put}
 
 pub put-none : (at : ℕ) (l : List ℕ) → Put at [] l l at
-unfolding written
+unfolding withText
 put-none at l = record { bytes = sym (rw (add-zero, append-nil) (take-append-drop at l)); after = sym (add-zero at) }
 
 -- one byte
 pub put-byte : (at x : ℕ) (l : List ℕ) → at < length l → Put at (x ∷ []) l (set l at x) (at + 1)
-unfolding written
+unfolding withText
 put-byte at x l h = record {
   bytes = set-split l at x h ∙ sym (append-snoc (take at l) x (drop (suc at) l)) ∙ rw (add-one);
   after = refl;
@@ -27,7 +27,7 @@ put-byte at x l h = record {
 
 -- one text after another
 pub put-then : {at next last : ℕ} {x y a b c : List ℕ} → next ≤ length a → Put at x a b next → Put next y b c last → Put at (x ++ y) a c last
-unfolding written
+unfolding withText
 put-then {at} {next} {last} {x} {y} {a} {b} {c} h p q =
     let room : at + length x ≤ length a = omega (arith, p .after) in
     let head : List ℕ = take at a ++ x in
@@ -43,7 +43,7 @@ put-then {at} {next} {last} {x} {y} {a} {b} {c} h p q =
     }
 
 pub put-length : {at next : ℕ} {x a b : List ℕ} → next ≤ length a → Put at x a b next → length b ≡ length a
-unfolding written
+unfolding withText
 put-length {at} {next} {x} {a} {b} h p =
     let room : at + length x ≤ length a = omega (arith, p .after) in
     ap length (p .bytes) ∙ length-append (take at a ++ x) (drop (at + length x) a)
@@ -63,7 +63,7 @@ put-line few room p q short r =
 
 -- from the start of a buffer that is long enough
 pub put-out : {text a b : List ℕ} {next : ℕ} → 256 ≤ length a → Put 0 text a b next → outputs b next ≡ outputOf text a
-unfolding outputOf written
+unfolding outputOf withText
 put-out {text} {a} {b} {next} h p =
     let e : next ≡ length text = p .after ∙ zero-add (length text) in
     let f : b ≡ text ++ drop (length text) a = p .bytes ∙ rw zero-add in

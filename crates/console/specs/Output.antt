@@ -19,10 +19,10 @@ unfoldable pub outputOf : List ℕ → List ℕ → Output
 outputOf text l = cond (ltb (length l) 256) (outputs l 0) (outputs (text ++ drop (length text) l) (length text))
 
 -- a text at a place, the rest as it was
-unfoldable pub written : ℕ → List ℕ → List ℕ → List ℕ
-written at text l = take at l ++ text ++ drop (at + length text) l
+unfoldable pub withText : ℕ → List ℕ → List ℕ → List ℕ
+withText at text l = take at l ++ text ++ drop (at + length text) l
 
 -- text was put at a place, and `next` is the place after it
 pub record Put (at : ℕ) (text entry exit : List ℕ) (next : ℕ) : Type 0 where
-  pub bytes : exit ≡ written at text entry
+  pub bytes : exit ≡ withText at text entry
   pub after : next ≡ at + length text

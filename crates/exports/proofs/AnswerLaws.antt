@@ -14,7 +14,7 @@ use Rattle.rules.specs.Run.{Ran}
 use Rattle.rules.specs.Calls.{Report, costLimit, runOf, reportOf}
 use Rattle.exports.specs.Stored.{answered, unlent}
 use Rattle.exports.specs.Reading.{numbersOf, readIn}
-use Rattle.exports.specs.Moving.{outcome, ranAs, ranIn, numberOf, valuesIn, reportedIn}
+use Rattle.exports.specs.Moving.{outcome, outcomeOf, ranIn, numberOf, valuesIn, reportedIn}
 use Rattle.exports.proofs.StoreLaws.{lent-well, lent-ill}
 
 -- a reading
@@ -42,8 +42,8 @@ module _ (s : List ℕ) (b : Buffers) (values : List ℤ) where
 -- a run, by what it left
 module _ (s : List ℕ) (b : Buffers) (l counts : List ℕ) where
   pub ran-by : (q : Ran) {left : List ℕ} → length counts ≡ 2 → q ≡ runOf s costLimit b l → left ≡ (q .finished ∷ q .stuck ∷ []) → outcome (q .buffers) (q .refusal) left ≡ ranIn s b l counts
-  unfolding ranIn ranAs
-  ran-by q h e m = ap (outcome (q .buffers) (q .refusal)) m ∙ ap ranAs e ∙ sym (if-true _ _ (eq-eqb (length counts) 2 h))
+  unfolding ranIn outcomeOf
+  ran-by q h e m = ap (outcome (q .buffers) (q .refusal)) m ∙ ap outcomeOf e ∙ sym (if-true _ _ (eq-eqb (length counts) 2 h))
 
   pub ran-ill : {r : ℕ} → (length counts ≡ 2 → ⊥) → r ≡ unlent (refusalOf s) → outcome b r counts ≡ ranIn s b l counts
   unfolding ranIn

@@ -22,12 +22,12 @@ abbrev pub outcome : Buffers → ℕ → List ℕ → Outcome
 outcome b refusal counts = record { buffers = b; refusal = refusal; counts = counts }
 
 -- "the records done, the roundings stuck and, if it stopped, the refusal"
-unfoldable pub ranAs : Ran → Outcome
-ranAs q = outcome (q .buffers) (q .refusal) (q .finished ∷ q .stuck ∷ [])
+unfoldable pub outcomeOf : Ran → Outcome
+outcomeOf q = outcome (q .buffers) (q .refusal) (q .finished ∷ q .stuck ∷ [])
 
 -- with another number of places for the counts nothing is run
 unfoldable pub ranIn : List ℕ → Buffers → List ℕ → List ℕ → Outcome
-ranIn s b l counts = cond (eqb (length counts) 2) (ranAs (runOf s costLimit b l)) (outcome b (unlent (refusalOf s)) counts)
+ranIn s b l counts = cond (eqb (length counts) 2) (outcomeOf (runOf s costLimit b l)) (outcome b (unlent (refusalOf s)) counts)
 
 -- ---- a report: its number, and four values: 1 if one is kept, the bound, the cost, the gap
 

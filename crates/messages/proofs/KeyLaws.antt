@@ -31,7 +31,7 @@ use Rattle.rules.specs.Rounding.{key}
 use Rattle.messages.specs.declared.view.View.{View}
 use Rattle.messages.specs.Lent.{EdgeFits}
 use Rattle.messages.specs.Seen.{Viewed}
-use Rattle.messages.specs.Rounded.{costsBy, added, keysAt, rowOf, Placed}
+use Rattle.messages.specs.Rounded.{costsBy, added, keysAt, edgeRow, Placed}
 use Rattle.messages.proofs.SheetLaws.{proper}
 
 -- ---- a row added, place by place: after i places the row's first i are added
@@ -201,13 +201,13 @@ module _ (I : Instance) (nodes edges : List ℤ) (x : List ℕ) (u : ℕ) where
 
   -- one edge more, of which u is the higher end
   pub keys-next : (l : List ℕ) (e : ℕ) → I .high e ≡ u → table I e + I .degree (I .high e) * position x (I .low e) + I .degree (I .high e) ≤ length edges
-      → added (keysOver l) (rowOf I edges x e) ≡ keysOver (l ++ e ∷ [])
+      → added (keysOver l) (edgeRow I edges x e) ≡ keysOver (l ++ e ∷ [])
   unfolding keysOver keyOver cell
   keys-next l e q room =
       let d = I .degree (I .high e) in
       let same : d ≡ I .degree u = ap (I .degree) q in
       let a = table I e + d * position x (I .low e) in
-      keys-added (I .degree u) (keyOver l) (keyOver (l ++ e ∷ [])) (rowOf I edges x e) (length-part edges a d room ∙ same)
+      keys-added (I .degree u) (keyOver l) (keyOver (l ++ e ∷ [])) (edgeRow I edges x e) (length-part edges a d room ∙ same)
       (λ k h. let y = c .node (first I u + k) in
       let s = sumOver (cellAt k) l in
       let z = cellAt k e in

@@ -45,8 +45,8 @@ unfoldable pub keysAt : Instance → Costs → List ℕ → ℕ → List ℤ
 keysAt I c x u = tabulate 16 (λ k. only (ltb k (I .degree u)) (key I c x u k))
 
 -- the row of edge e that the position of its lower end picks
-abbrev pub rowOf : Instance → List ℤ → List ℕ → ℕ → List ℤ
-rowOf I edges x e = part edges (table I e + I .degree (I .high e) * position x (I .low e)) (I .degree (I .high e))
+abbrev pub edgeRow : Instance → List ℤ → List ℕ → ℕ → List ℤ
+edgeRow I edges x e = part edges (table I e + I .degree (I .high e) * position x (I .low e)) (I .degree (I .high e))
 
 -- ---- the choice
 

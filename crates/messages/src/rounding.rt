@@ -17,7 +17,7 @@ ghost use Rattle.rules.specs.Calls.{costLimit};
 ghost use Rattle.rules.specs.Rounding.{round};
 ghost use Rattle.messages.specs.Lent.{EdgeFits};
 ghost use Rattle.messages.specs.Seen.{tablesOf, Viewed};
-ghost use Rattle.messages.specs.Rounded.{costsBy, roundedBy, added, keysAt, rowOf, better, chosenFrom, Placed, RoundAsked};
+ghost use Rattle.messages.specs.Rounded.{costsBy, roundedBy, added, keysAt, edgeRow, better, chosenFrom, Placed, RoundAsked};
 
 // What rounding answers: a position for each node, or that no label was left for one.
 pub(crate) struct Rounding {
@@ -53,7 +53,7 @@ fn add_edge(
     requires { ⌜ Viewed (now sheet) view × (now tables ≡ tablesOf (now sheet)) × EdgeFits (now sheet) (now edges) ⌝ }
     requires { ⌜ Placed (now sheet) (now positions) u × (e < view .edges) × (instanceOf (now sheet) .high e ≡ u) ⌝ }
     requires { ⌜ (length (now keys) ≡ 16) × Within (2 ^ 50) (now keys) ⌝ }
-    ensures { λ _. ⌜ now (keys .exit) ≡ added (now (keys .entry)) (rowOf (instanceOf (now (sheet .entry))) (now (edges .entry)) (now (positions .entry)) e) ⌝ }
+    ensures { λ _. ⌜ now (keys .exit) ≡ added (now (keys .entry)) (edgeRow (instanceOf (now (sheet .entry))) (now (edges .entry)) (now (positions .entry)) e) ⌝ }
 {
     let low = low_end(sheet, view, e);
     let degree = degree_of(sheet, u);

@@ -19,7 +19,7 @@ use Rattle.instance.proofs.Shown.{checks-numbered}
 use Rattle.schedule.specs.Sweep.{bytes, sweep, known, sweepRecords, sweepLength}
 use Rattle.schedule.specs.Written.{Written, written, sweepOf}
 use Rattle.schedule.proofs.Written.{unread, unknown, swept}
-use Rattle.sweep.specs.Swept.{numberOf, sweepBytes}
+use Rattle.sweep.specs.Swept.{refusalFor, sweepBytes}
 
 -- ---- the room that a sweep takes
 
@@ -30,16 +30,16 @@ sized s q e h = let d = laid-out s q (refusal-is s q ∙ h) in omega (arith, d .
 -- ---- the number and the bytes
 
 module _ (s : List ℕ) (direction : ℕ) where
-  number-is : numberOf s direction ≡ cond (eqb (refusalOf s) 0) (cond (known direction) 0 12) (refusalOf s)
-  unfolding numberOf refusalOf firstFailure
+  number-is : refusalFor s direction ≡ cond (eqb (refusalOf s) 0) (cond (known direction) 0 12) (refusalOf s)
+  unfolding refusalFor refusalOf firstFailure
   number-is = failure-append (checks s) ((known direction, 12) ∷ []) (checks-numbered s)
 
   -- what is left in a buffer of the sweep's length
   pub record Left (out : List ℕ) (r : ℕ) : Type 0 where
-    pub number : r ≡ numberOf s direction
+    pub number : r ≡ refusalFor s direction
     pub content : r ≡ 0 → out ≡ bytes (sweep (instanceOf s) direction)
 
-  left-by : {out : List ℕ} {r : ℕ} (out′ : List ℕ) (r′ : ℕ) → written out r ≡ written out′ r′ → r′ ≡ numberOf s direction → (r′ ≡ 0 → out′ ≡ bytes (sweep (instanceOf s) direction)) → Left out r
+  left-by : {out : List ℕ} {r : ℕ} (out′ : List ℕ) (r′ : ℕ) → written out r ≡ written out′ r′ → r′ ≡ refusalFor s direction → (r′ ≡ 0 → out′ ≡ bytes (sweep (instanceOf s) direction)) → Left out r
   left-by out′ r′ e n c =
       let k = ap (λ (w : Written). w .refusal) e in
       record { number = k ∙ n; content = λ z. ap (λ (w : Written). w .content) e ∙ c (sym k ∙ z) }
@@ -57,10 +57,10 @@ module _ (s : List ℕ) (direction : ℕ) where
       refl′ : bytes (sweep (instanceOf s) direction) ≡ bytes (sweep (instanceOf s) direction)
       refl′ = λ j. bytes (sweep (instanceOf s) direction)
 
-  pub written-all : numberOf s direction ≡ 0 → bytes (sweep (instanceOf s) direction) ≡ sweepBytes s direction
+  pub written-all : refusalFor s direction ≡ 0 → bytes (sweep (instanceOf s) direction) ≡ sweepBytes s direction
   unfolding sweepBytes
-  written-all e = sym (if-true _ _ (eq-eqb (numberOf s direction) 0 e))
+  written-all e = sym (if-true _ _ (eq-eqb (refusalFor s direction) 0 e))
 
-  pub written-none : (numberOf s direction ≡ 0 → ⊥) → [] ≡ sweepBytes s direction
+  pub written-none : (refusalFor s direction ≡ 0 → ⊥) → [] ≡ sweepBytes s direction
   unfolding sweepBytes
-  written-none h = sym (if-false _ _ (ne-eqb (numberOf s direction) 0 h))
+  written-none h = sym (if-false _ _ (ne-eqb (refusalFor s direction) 0 h))

@@ -7,7 +7,7 @@ use native.Mathlib.Numerals.{add-one}
 use native.Mathlib.Omega.{arith}
 use lib.ListN.{length, take, drop}
 use lib.Seq.{paste, paste-zero, paste-suc, length-paste, take-length}
-use Rattle.console.specs.Output.{written}
+use Rattle.console.specs.Output.{withText}
 use Rattle.console.proofs.text.put.Statement.{statement}
 use Rattle.console.proofs.text.put.Tie as tie
 
@@ -55,7 +55,7 @@ same-length : tie.Need-same-length Inv-loop μ-loop
 same-length c = size (c .before)
 
 returns : tie.Need-returns Inv-loop μ-loop
-unfolding written
+unfolding withText
 returns c =
     let p = c .before in
     let l = p .before .args .out .now in

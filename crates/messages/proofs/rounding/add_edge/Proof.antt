@@ -9,7 +9,7 @@ use Rattle.instance.specs.Instance.{Instance, table}
 use Rattle.instance.specs.Sheet.{instanceOf}
 use Rattle.rules.specs.Calls.{costLimit}
 use Rattle.rules.specs.Costs.{position}
-use Rattle.messages.specs.Rounded.{added, rowOf}
+use Rattle.messages.specs.Rounded.{added, edgeRow}
 use Rattle.messages.proofs.SheetLaws.{proper, nodes-few, edges-few, high-node, table-is}
 use Rattle.messages.proofs.KeyLaws.{row-room}
 use borrow.Author.Needs.{needs}
@@ -60,7 +60,7 @@ module _ (p : tie.After-wide) where
   small : from + long ≤ 4_096
   small = omega (arith, room, start .pre .0 .2 .size, proper (now (start .args .sheet)) (start .pre .0 .0 .readable) .cellsFew)
 
-  read : take (from + long - from) (drop from (now (start .args .edges))) ≡ rowOf (I start) (now (start .args .edges)) (now (start .args .positions)) e
+  read : take (from + long - from) (drop from (now (start .args .edges))) ≡ edgeRow (I start) (now (start .args .edges)) (now (start .args .positions)) e
   read =
       let a : from + long - from ≡ long = omega arith in
       ap₂ (λ (m k : ℕ). take m (drop k (now (start .args .edges)))) (a ∙ long-is) from-is

@@ -16,7 +16,7 @@ use Rattle.instance.proofs.LaidOut.{row-inside, positions-few}
 use Rattle.integers.proofs.Places.{length-range}
 use Rattle.index.specs.Index.{many}
 use Rattle.rules.specs.Calls.{costLimit}
-use Rattle.messages.specs.Rounded.{added, rowOf}
+use Rattle.messages.specs.Rounded.{added, edgeRow}
 use Rattle.messages.proofs.SheetLaws.{proper, nodes-few, start-is}
 use Rattle.messages.proofs.KeyLaws.{zeros-within, keysOver, keys-length, keys-small, keys-first, keys-next, keys-all, things, things-more, thing-keyed, row-room}
 use borrow.Author.Needs.{needs}
@@ -228,7 +228,7 @@ loop-again c =
     let z : n h + 1 ≡ h .loop .at + 1 - (65 * u r + 1) = omega (arith, h .loop .inv .0) in (
       omega (arith, h .loop .inv .0),
       omega (arith, more p, h .loop .inv .0),
-      c .before .add-edge .ensures ∙ ap (λ (k : List ℤ). added k (rowOf (I r) (edges r) (x r) (e p))) (h .loop .inv .2)
+      c .before .add-edge .ensures ∙ ap (λ (k : List ℤ). added k (edgeRow (I r) (edges r) (x r) (e p))) (h .loop .inv .2)
           ∙ keys-next (I r) (nodes r) (edges r) (x r) (u r) (sofar h) (e p) (ends p) (row-room (r .pre .0 .seen .viewed) (r .pre .0 .edgeCosts) (x r) (r .pre .1 .1) (exists p) (ends p))
           ∙ ap (keysOver (I r) (nodes r) (edges r) (x r) (u r)) (ap (λ (d : ℕ). sofar h ++ d ∷ []) (edge p) ∙ sym (things-more (r .pre .0 .indexed) (u r) (low r) (n h)) ∙ ap (things (r .pre .0 .indexed) (u r) (low r)) z),
     )
