@@ -7,31 +7,19 @@ use borrow.Author.Needs.{needs}
 use Rattle.terminal.proofs.print_refusal.Statement.{statement}
 use Rattle.terminal.proofs.print_refusal.Tie as tie
 
-slice-aggregate-refusal-text : tie.Need-slice-aggregate-refusal-text
-slice-aggregate-refusal-text c = search needs
-
-refusal-text-requires : tie.Need-refusal-text-requires
-refusal-text-requires c κs = search needs
-
 array-share-prefix-text : tie.Need-array-share-prefix-text
 array-share-prefix-text c = output-counts _ _ (c .before .refusal-text .ensures)
 
 slice-aggregate-write-all : tie.Need-slice-aggregate-write-all
 slice-aggregate-write-all c = sym (length-take-le _ _ (output-counts _ _ (c .before .before .refusal-text .ensures)))
 
-write-all-requires : tie.Need-write-all-requires
-write-all-requires c κs = search needs
-
-returns : tie.Need-returns
-returns c = search needs
-
 pub print-refusal-spec : {M : Type 1} → statement M
 print-refusal-spec =
     tie.close
     (tie.spec
-    slice-aggregate-refusal-text
-    refusal-text-requires
+    (λ c. search needs)
+    (λ c κs. search needs)
     array-share-prefix-text
     slice-aggregate-write-all
-    write-all-requires
-    returns)
+    (λ c κs. search needs)
+    (λ c. search needs))

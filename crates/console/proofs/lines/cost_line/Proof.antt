@@ -10,21 +10,6 @@ use Rattle.console.proofs.lines.cost_line.Tie as tie
 use Rattle.console.proofs.text.put.Reads as put-reads
 use Rattle.console.proofs.text.put_signed.Reads as put-signed-reads
 
-put-requires : tie.Need-put-requires
-put-requires c κs = search needs
-
-put-signed-requires : tie.Need-put-signed-requires
-put-signed-requires c κs = search needs
-
-slice-aggregate-put : tie.Need-slice-aggregate-put
-slice-aggregate-put c = search needs
-
-put-requires-2 : tie.Need-put-requires-2
-put-requires-2 c κs = search needs
-
-same-length : tie.Need-same-length
-same-length c = search needs
-
 returns : tie.Need-returns
 returns c =
     let s = c .before .before .before .before .before .before .before .before .before .before .before .before .before .before .before in
@@ -36,9 +21,9 @@ pub cost-line-spec : {M : Type 1} → statement M
 cost-line-spec =
     tie.close
     (tie.spec
-    put-requires
-    put-signed-requires
-    slice-aggregate-put
-    put-requires-2
-    same-length
+    (λ c κs. search needs)
+    (λ c κs. search needs)
+    (λ c. search needs)
+    (λ c κs. search needs)
+    (λ c. search needs)
     returns)

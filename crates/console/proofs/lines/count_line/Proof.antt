@@ -9,20 +9,11 @@ use Rattle.console.proofs.lines.count_line.Tie as tie
 use Rattle.console.proofs.text.put.Reads as put-reads
 use Rattle.console.proofs.text.put_decimal.Reads as put-decimal-reads
 
-put-requires : tie.Need-put-requires
-put-requires c κs = search needs
-
 put-decimal-requires : tie.Need-put-decimal-requires
 put-decimal-requires c κs = let s = c .before .before .before .before .before .before .before in omega (arith, length-word (s .args .n) (s .fits .n .fits))
 
-slice-aggregate-put : tie.Need-slice-aggregate-put
-slice-aggregate-put c = search needs
-
 put-requires-2 : tie.Need-put-requires-2
 put-requires-2 c κs = let s = c .before .before .before .before .before .before .before .before .before .before .before .before in omega (arith, s .pre, length-word (s .args .n) (s .fits .n .fits))
-
-same-length : tie.Need-same-length
-same-length c = search needs
 
 returns : tie.Need-returns
 returns c =
@@ -35,9 +26,9 @@ pub count-line-spec : {M : Type 1} → statement M
 count-line-spec =
     tie.close
     (tie.spec
-    put-requires
+    (λ c κs. search needs)
     put-decimal-requires
-    slice-aggregate-put
+    (λ c. search needs)
     put-requires-2
-    same-length
+    (λ c. search needs)
     returns)

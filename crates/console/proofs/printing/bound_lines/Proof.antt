@@ -14,27 +14,6 @@ use Rattle.console.proofs.printing.bound_lines.Tie as tie
 use Rattle.console.proofs.lines.cost_line.Reads as cost-line-reads
 use Rattle.console.proofs.text.put.Reads as put-reads
 
-slice-aggregate-cost-line : tie.Need-slice-aggregate-cost-line
-slice-aggregate-cost-line c = search needs
-
-cost-line-requires : tie.Need-cost-line-requires
-cost-line-requires c κs = search needs
-
-slice-aggregate-put : tie.Need-slice-aggregate-put
-slice-aggregate-put c = search needs
-
-put-requires : tie.Need-put-requires
-put-requires c κs = search needs
-
-slice-aggregate-put-2 : tie.Need-slice-aggregate-put-2
-slice-aggregate-put-2 c = search needs
-
-put-requires-2 : tie.Need-put-requires-2
-put-requires-2 c κs = search needs
-
-same-length : tie.Need-same-length
-same-length c = search needs
-
 returns : tie.Need-returns
 unfolding line boundLines
 returns c =
@@ -51,11 +30,11 @@ pub bound-lines-spec : {M : Type 1} → statement M
 bound-lines-spec =
     tie.close
     (tie.spec
-    slice-aggregate-cost-line
-    cost-line-requires
-    slice-aggregate-put
-    put-requires
-    slice-aggregate-put-2
-    put-requires-2
-    same-length
+    (λ c. search needs)
+    (λ c κs. search needs)
+    (λ c. search needs)
+    (λ c κs. search needs)
+    (λ c. search needs)
+    (λ c κs. search needs)
+    (λ c. search needs)
     returns)

@@ -15,18 +15,6 @@ use Rattle.console.proofs.printing.report_text.Reads as report-text-rea
 returns : tie.Need-returns
 returns c = let s = c .before .before in out-short (textOf (s .args .answer .done) (s .args .answer .stuck) (s .args .answer .refusal) (reportedAs (s .args .report))) (c .if1 .taken)
 
-at-records-requires : tie.Need-at-records-requires
-at-records-requires c κs = search needs
-
-report-text-requires : tie.Need-report-text-requires
-report-text-requires c κs = search needs
-
-refused-line-requires : tie.Need-refused-line-requires
-refused-line-requires c κs = search needs
-
-same-length : tie.Need-same-length
-same-length c = search needs
-
 returns-2 : tie.Need-returns-2
 unfolding textOf
 returns-2 c =
@@ -35,9 +23,6 @@ returns-2 c =
     out-as (s .args .out .now)
     (sym (if-true (reportText (a .done) (a .stuck) (a .refusal) (reportedAs (s .args .report))) (refusedLine (a .refusal)) (sym (c .before .before .before .before .before .at-records .ensures) ∙ c .before .before .before .before .if2 .taken)))
     (put-out (c .before .before .before .before .before .before .if1 .left) (c .before .before .report-text .ensures))
-
-same-length-2 : tie.Need-same-length-2
-same-length-2 c = search needs
 
 returns-3 : tie.Need-returns-3
 unfolding textOf
@@ -53,10 +38,10 @@ compose-spec =
     tie.close
     (tie.spec
     returns
-    at-records-requires
-    report-text-requires
-    refused-line-requires
-    same-length
+    (λ c κs. search needs)
+    (λ c κs. search needs)
+    (λ c κs. search needs)
+    (λ c. search needs)
     returns-2
-    same-length-2
+    (λ c. search needs)
     returns-3)

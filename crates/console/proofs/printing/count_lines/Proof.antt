@@ -8,21 +8,6 @@ use Rattle.console.proofs.printing.count_lines.Statement.{statement}
 use Rattle.console.proofs.printing.count_lines.Tie as tie
 use Rattle.console.proofs.lines.count_line.Reads as count-line-reads
 
-slice-aggregate-count-line : tie.Need-slice-aggregate-count-line
-slice-aggregate-count-line c = search needs
-
-count-line-requires : tie.Need-count-line-requires
-count-line-requires c κs = search needs
-
-slice-aggregate-count-line-2 : tie.Need-slice-aggregate-count-line-2
-slice-aggregate-count-line-2 c = search needs
-
-count-line-requires-2 : tie.Need-count-line-requires-2
-count-line-requires-2 c κs = search needs
-
-same-length : tie.Need-same-length
-same-length c = search needs
-
 returns : tie.Need-returns
 unfolding countLines
 returns c =
@@ -34,9 +19,9 @@ pub count-lines-spec : {M : Type 1} → statement M
 count-lines-spec =
     tie.close
     (tie.spec
-    slice-aggregate-count-line
-    count-line-requires
-    slice-aggregate-count-line-2
-    count-line-requires-2
-    same-length
+    (λ c. search needs)
+    (λ c κs. search needs)
+    (λ c. search needs)
+    (λ c κs. search needs)
+    (λ c. search needs)
     returns)

@@ -13,27 +13,6 @@ use Rattle.console.proofs.printing.kept_lines.Statement.{statement}
 use Rattle.console.proofs.printing.kept_lines.Tie as tie
 use Rattle.console.proofs.lines.cost_line.Reads as cost-line-reads
 
-slice-aggregate-cost-line : tie.Need-slice-aggregate-cost-line
-slice-aggregate-cost-line c = search needs
-
-cost-line-requires : tie.Need-cost-line-requires
-cost-line-requires c κs = search needs
-
-slice-aggregate-cost-line-2 : tie.Need-slice-aggregate-cost-line-2
-slice-aggregate-cost-line-2 c = search needs
-
-cost-line-requires-2 : tie.Need-cost-line-requires-2
-cost-line-requires-2 c κs = search needs
-
-slice-aggregate-cost-line-3 : tie.Need-slice-aggregate-cost-line-3
-slice-aggregate-cost-line-3 c = search needs
-
-cost-line-requires-3 : tie.Need-cost-line-requires-3
-cost-line-requires-3 c κs = search needs
-
-same-length : tie.Need-same-length
-same-length c = search needs
-
 returns : tie.Need-returns
 unfolding keptLines
 returns c =
@@ -52,11 +31,11 @@ pub kept-lines-spec : {M : Type 1} → statement M
 kept-lines-spec =
     tie.close
     (tie.spec
-    slice-aggregate-cost-line
-    cost-line-requires
-    slice-aggregate-cost-line-2
-    cost-line-requires-2
-    slice-aggregate-cost-line-3
-    cost-line-requires-3
-    same-length
+    (λ c. search needs)
+    (λ c κs. search needs)
+    (λ c. search needs)
+    (λ c κs. search needs)
+    (λ c. search needs)
+    (λ c κs. search needs)
+    (λ c. search needs)
     returns)

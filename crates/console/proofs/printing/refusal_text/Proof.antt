@@ -10,14 +10,8 @@ use Rattle.console.proofs.lines.refused_line.Reads as refused-line-read
 returns : tie.Need-returns
 returns c = out-short (refusedLine (c .before .before .args .refusal)) (c .if1 .taken)
 
-refused-line-requires : tie.Need-refused-line-requires
-refused-line-requires c κs = search needs
-
-same-length : tie.Need-same-length
-same-length c = search needs
-
 returns-2 : tie.Need-returns-2
 returns-2 c = put-out (c .before .before .before .before .if1 .left) (c .before .before .refused-line .ensures .0)
 
 pub refusal-text-spec : {M : Type 1} → statement M
-refusal-text-spec = tie.close (tie.spec returns refused-line-requires same-length returns-2)
+refusal-text-spec = tie.close (tie.spec returns (λ c κs. search needs) (λ c. search needs) returns-2)

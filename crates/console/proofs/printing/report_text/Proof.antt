@@ -16,29 +16,8 @@ use Rattle.console.proofs.printing.kept_lines.Reads as kept-lines-reads
 use Rattle.console.proofs.printing.stop_line.Reads as stop-line-reads
 use Rattle.console.proofs.printing.unkept_text.Reads as unkept-text-reads
 
-enum-known-report : tie.Need-enum-known-report
-enum-known-report c = search needs
-
 unkept-text-requires : tie.Need-unkept-text-requires
 unkept-text-requires c κs = (search needs, not-kept (c .before .before .before .args .report) (c .before .match .keys2))
-
-same-length : tie.Need-same-length
-same-length c = search needs
-
-returns : tie.Need-returns
-returns c = search needs
-
-count-lines-requires : tie.Need-count-lines-requires
-count-lines-requires c κs = search needs
-
-kept-lines-requires : tie.Need-kept-lines-requires
-kept-lines-requires c κs = search needs
-
-stop-line-requires : tie.Need-stop-line-requires
-stop-line-requires c κs = search needs
-
-same-length-2 : tie.Need-same-length-2
-same-length-2 c = search needs
 
 returns-2 : tie.Need-returns-2
 unfolding reportText
@@ -59,12 +38,12 @@ pub report-text-spec : {M : Type 1} → statement M
 report-text-spec =
     tie.close
     (tie.spec
-    enum-known-report
+    (λ c. search needs)
     unkept-text-requires
-    same-length
-    returns
-    count-lines-requires
-    kept-lines-requires
-    stop-line-requires
-    same-length-2
+    (λ c. search needs)
+    (λ c. search needs)
+    (λ c κs. search needs)
+    (λ c κs. search needs)
+    (λ c κs. search needs)
+    (λ c. search needs)
     returns-2)

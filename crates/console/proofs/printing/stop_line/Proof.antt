@@ -12,15 +12,9 @@ returns : tie.Need-returns
 unfolding stopLine
 returns c = let s = c .before .before in rw (eq-eqb (s .args .refusal) 0 (c .if1 .taken)) (put-none (s .args .at) (s .args .out .now))
 
-refused-line-requires : tie.Need-refused-line-requires
-refused-line-requires c κs = search needs
-
-same-length : tie.Need-same-length
-same-length c = search needs
-
 returns-2 : tie.Need-returns-2
 unfolding stopLine
 returns-2 c = let s = c .before .before .before .before .before .before in rw (ne-eqb (s .args .refusal) 0 (c .before .before .before .before .if1 .left)) (c .before .before .refused-line .ensures .0)
 
 pub stop-line-spec : {M : Type 1} → statement M
-stop-line-spec = tie.close (tie.spec returns refused-line-requires same-length returns-2)
+stop-line-spec = tie.close (tie.spec returns (λ c κs. search needs) (λ c. search needs) returns-2)

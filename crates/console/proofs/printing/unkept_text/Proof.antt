@@ -17,18 +17,6 @@ use Rattle.console.proofs.printing.count_lines.Reads as count-lines-rea
 use Rattle.console.proofs.printing.refusal_of.Reads as refusal-of-reads
 use Rattle.console.proofs.printing.stop_line.Reads as stop-line-reads
 
-enum-known-report : tie.Need-enum-known-report
-enum-known-report c = search needs
-
-refusal-of-requires : tie.Need-refusal-of-requires
-refusal-of-requires c κs = search needs
-
-refused-line-requires : tie.Need-refused-line-requires
-refused-line-requires c κs = search needs
-
-same-length : tie.Need-same-length
-same-length c = search needs
-
 returns : tie.Need-returns
 unfolding reportText
 returns c =
@@ -36,18 +24,6 @@ returns c =
     let a = s .args .answer in
     put-as (ap refusedLine (c .before .before .before .refusal-of .ensures) ∙ refused-text (a .done) (a .stuck) (a .refusal) (s .args .report) (s .pre .1) (c .before .before .before .before .before .match .keys2))
     (c .before .before .refused-line .ensures .0)
-
-count-lines-requires : tie.Need-count-lines-requires
-count-lines-requires c κs = search needs
-
-bound-lines-requires : tie.Need-bound-lines-requires
-bound-lines-requires c κs = search needs
-
-stop-line-requires : tie.Need-stop-line-requires
-stop-line-requires c κs = search needs
-
-same-length-2 : tie.Need-same-length-2
-same-length-2 c = search needs
 
 returns-2 : tie.Need-returns-2
 unfolding reportText
@@ -66,13 +42,13 @@ pub unkept-text-spec : {M : Type 1} → statement M
 unkept-text-spec =
     tie.close
     (tie.spec
-    enum-known-report
-    refusal-of-requires
-    refused-line-requires
-    same-length
+    (λ c. search needs)
+    (λ c κs. search needs)
+    (λ c κs. search needs)
+    (λ c. search needs)
     returns
-    count-lines-requires
-    bound-lines-requires
-    stop-line-requires
-    same-length-2
+    (λ c κs. search needs)
+    (λ c κs. search needs)
+    (λ c κs. search needs)
+    (λ c. search needs)
     returns-2)

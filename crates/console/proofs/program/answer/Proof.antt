@@ -15,9 +15,6 @@ use Rattle.instance.proofs.read.Reads as read-reads
 small : (p : tie.After-read) → Few (p .read .result)
 small p = few (p .before .before .before .before .args .sheet .now) (p .read .ensures)
 
-read-requires : tie.Need-read-requires
-read-requires c κs = tt
-
 array-borrow-prefix-nodes : tie.Need-array-borrow-prefix-nodes
 array-borrow-prefix-nodes c = small c .positions
 
@@ -61,7 +58,7 @@ pub answer-spec : {M : Type 1} → statement M
 answer-spec =
     tie.close
     (tie.spec
-    read-requires
+    (λ c κs. tt)
     array-borrow-prefix-nodes
     slice-aggregate-answer-in
     array-borrow-prefix-labels

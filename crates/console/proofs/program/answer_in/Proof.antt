@@ -41,12 +41,6 @@ module _ (p : tie.After-open) where
       → lent (p .«open» .last .1 .0) (p .«open» .last .1 .1 .0) (p .«open» .last .1 .1 .1 .0) (p .«open» .last .1 .1 .1 .1 .0) ≡ opened (instanceOf sheet)
   left e = ap (λ (o : Opened). o .buffers) (p .«open» .ensures) ∙ open-leaves sheet before (start .pre) e
 
-open-requires : tie.Need-open-requires
-open-requires c κs = tt
-
-refusal-text-requires : tie.Need-refusal-text-requires
-refusal-text-requires c κs = tt
-
 same-length : tie.Need-same-length
 same-length c = c .before .before .before .before .before .before .before .before .before .before .«open» .kept .1 .0
 
@@ -67,9 +61,6 @@ returns c =
     let p = c .before .before .before .before .before .before .before .before .before .before in
     out-as (start p .args .out .now) (printed-refused (sheet p) (start p .args .records .now) (number p) (c .before .before .before .before .if1 .taken)) (c .before .before .refusal-text .ensures)
 
-refusal-text-requires-2 : tie.Need-refusal-text-requires-2
-refusal-text-requires-2 c κs = tt
-
 same-length-6 : tie.Need-same-length-6
 same-length-6 c = c .before .before .before .before .before .before .before .before .before .before .before .«open» .kept .1 .0
 
@@ -89,15 +80,6 @@ returns-2 : tie.Need-returns-2
 returns-2 c =
     let p = c .before .before .before .before .before .before .before .before .before .before .before in
     out-as (start p .args .out .now) (printed-long (sheet p) (start p .args .records .now) (readable p (c .before .before .before .before .before .if1 .left)) (omega (arith, c .before .before .before .before .if2 .taken))) (c .before .before .refusal-text2 .ensures)
-
-run-requires : tie.Need-run-requires
-run-requires c κs = tt
-
-report-requires : tie.Need-report-requires
-report-requires c κs = tt
-
-compose-requires : tie.Need-compose-requires
-compose-requires c κs = tt
 
 same-length-11 : tie.Need-same-length-11
 same-length-11 c = c .before .before .before .before .before .before .before .before .before .before .before .before .before .before .run .kept .1 .1 .0 ∙ c .before .before .before .before .before .before .before .before .before .before .before .before .before .before .before .before .before .before .before .before .before .before .before .before .before .before .«open» .kept .1 .0
@@ -130,24 +112,24 @@ pub answer-in-spec : {M : Type 1} → statement M
 answer-in-spec =
     tie.close
     (tie.spec
-    open-requires
-    refusal-text-requires
+    (λ c κs. tt)
+    (λ c κs. tt)
     same-length
     same-length-2
     same-length-3
     same-length-4
     same-length-5
     returns
-    refusal-text-requires-2
+    (λ c κs. tt)
     same-length-6
     same-length-7
     same-length-8
     same-length-9
     same-length-10
     returns-2
-    run-requires
-    report-requires
-    compose-requires
+    (λ c κs. tt)
+    (λ c κs. tt)
+    (λ c κs. tt)
     same-length-11
     same-length-12
     same-length-13

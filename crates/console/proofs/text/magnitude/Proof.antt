@@ -47,10 +47,7 @@ cast-result-2 c = let z = c .before .args .z in rw (toZ-ofZ (c .before .fits .z)
 returns : tie.Need-returns
 returns c = let b = below c in rw (back c) (omega (linear, add (z c) (pos 1), sub (pos 0) (z c +ℤ pos 1), abs (z c), abs (pos 0 -ℤ (z c +ℤ pos 1)), apart (z c), apart (z c +ℤ pos 1), apart (pos 0 -ℤ (z c +ℤ pos 1))))
 
-returns-2 : tie.Need-returns-2
-returns-2 c = search needs
-
 pub magnitude-spec : {M : Type 1} → statement M
 magnitude-spec =
     tie.close
-    (tie.spec add-result sub-result cast-result add-result-2 cast-result-2 returns returns-2)
+    (tie.spec add-result sub-result cast-result add-result-2 cast-result-2 returns (λ c. search needs))

@@ -49,12 +49,6 @@ module _ (c : tie.After-slice-known3) where
 slice-write-out : tie.Need-slice-write-out
 slice-write-out c = search needs
 
-add-put-decimal : tie.Need-add-put-decimal
-add-put-decimal c = search needs
-
-magnitude-requires : tie.Need-magnitude-requires
-magnitude-requires c κs = search needs
-
 put-decimal-requires : tie.Need-put-decimal-requires
 put-decimal-requires c κs = simp length-set (omega (arith, few1 c))
 
@@ -68,14 +62,8 @@ returns c =
     let p = put-byte (s1 c .args .at) 45 (s1 c .args .out .now) (slice-write-out (c .before .before .before .before .before)) in
     (put-as (text1 c) (put-then (omega (arith, s1 c .pre)) p q), omega (arith, q .after))
 
-magnitude-requires-2 : tie.Need-magnitude-requires-2
-magnitude-requires-2 c κs = search needs
-
 put-decimal-requires-2 : tie.Need-put-decimal-requires-2
 put-decimal-requires-2 c κs = omega (arith, few2 c)
-
-same-length-2 : tie.Need-same-length-2
-same-length-2 c = search needs
 
 returns-2 : tie.Need-returns-2
 returns-2 c =
@@ -88,12 +76,12 @@ put-signed-spec =
     tie.close
     (tie.spec
     slice-write-out
-    add-put-decimal
-    magnitude-requires
+    (λ c. search needs)
+    (λ c κs. search needs)
     put-decimal-requires
     same-length
     returns
-    magnitude-requires-2
+    (λ c κs. search needs)
     put-decimal-requires-2
-    same-length-2
+    (λ c. search needs)
     returns-2)

@@ -19,32 +19,14 @@ use Rattle.exports.proofs.moving.cirbaldu_report.Tie as tie
 abbrev buffers : tie.Start → Buffers
 buffers q = lent (now (q .args .nodes)) (now (q .args .labels)) (now (q .args .edges)) (now (q .args .incumbent))
 
-read-requires : tie.Need-read-requires
-read-requires c κs = search needs
-
-refuse-length-requires : tie.Need-refuse-length-requires
-refuse-length-requires c κs = search needs
-
 returns : tie.Need-returns
 returns c =
     let r = c .before in
     let q = r .before .before .before .before in
     reported-ill (now (q .args .sheet)) (buffers q) (now (q .args .values)) (r .before .if1 .taken) (c .refuse-length .ensures ∙ ap unlent (refusal-is (now (q .args .sheet)) (r .read .ensures)))
 
-report-requires : tie.Need-report-requires
-report-requires c κs = search needs
-
-enum-known-told : tie.Need-enum-known-told
-enum-known-told c = search needs
-
-enum-known-told-2 : tie.Need-enum-known-told-2
-enum-known-told-2 c = search needs
-
 store-costs-requires : tie.Need-store-costs-requires
 store-costs-requires c κs = c .before .before .before .before .before .if1 .left
-
-enum-known-told-3 : tie.Need-enum-known-told-3
-enum-known-told-3 c = search needs
 
 store-costs-requires-2 : tie.Need-store-costs-requires-2
 store-costs-requires-2 c κs = c .before .before .before .before .before .if1 .left
@@ -56,9 +38,6 @@ returns-2 c =
     let q = p .before .before .before .before in
     reported-by (now (q .args .sheet)) (buffers q) (now (q .args .values)) _ (p .before .if1 .left) (sym (ap reportedAs (c .before .told .given .1)) ∙ p .report .ensures) refl
 
-same-length : tie.Need-same-length
-same-length c = search needs
-
 returns-3 : tie.Need-returns-3
 unfolding numberOf valuesIn
 returns-3 c =
@@ -69,9 +48,6 @@ returns-3 c =
     let n = same (t .given .0 .0) (k .0 .1) in
     reported-by (now (q .args .sheet)) (buffers q) (now (q .args .values)) _ (p .before .if1 .left) (sym (ap reportedAs (t .given .1)) ∙ p .report .ensures)
     (c .before .store-costs .ensures ∙ ap (λ (x : ℤ). pos 0 ∷ x ∷ pos 0 ∷ pos 0 ∷ []) n)
-
-same-length-2 : tie.Need-same-length-2
-same-length-2 c = search needs
 
 returns-4 : tie.Need-returns-4
 unfolding numberOf valuesIn
@@ -91,17 +67,17 @@ pub cirbaldu-report-spec : {M : Type 1} → statement M
 cirbaldu-report-spec =
     tie.close
     (tie.spec
-    read-requires
-    refuse-length-requires
+    (λ c κs. search needs)
+    (λ c κs. search needs)
     returns
-    report-requires
-    enum-known-told
-    enum-known-told-2
+    (λ c κs. search needs)
+    (λ c. search needs)
+    (λ c. search needs)
     store-costs-requires
-    enum-known-told-3
+    (λ c. search needs)
     store-costs-requires-2
     returns-2
-    same-length
+    (λ c. search needs)
     returns-3
-    same-length-2
+    (λ c. search needs)
     returns-4)

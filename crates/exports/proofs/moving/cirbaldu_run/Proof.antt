@@ -9,12 +9,6 @@ use borrow.Author.Needs.{needs}
 use Rattle.exports.proofs.moving.cirbaldu_run.Statement.{statement}
 use Rattle.exports.proofs.moving.cirbaldu_run.Tie as tie
 
-read-requires : tie.Need-read-requires
-read-requires c κs = search needs
-
-refuse-length-requires : tie.Need-refuse-length-requires
-refuse-length-requires c κs = search needs
-
 returns : tie.Need-returns
 returns c =
     let r = c .before in
@@ -22,29 +16,8 @@ returns c =
     ran-ill (now (a .sheet)) (lent (now (a .nodes)) (now (a .labels)) (now (a .edges)) (now (a .incumbent))) (now (a .records)) (now (a .counts)) (r .before .if1 .taken)
     (c .refuse-length .ensures ∙ ap unlent (refusal-is (now (a .sheet)) (r .read .ensures)))
 
-run-requires : tie.Need-run-requires
-run-requires c κs = search needs
-
-slice-aggregate-copy : tie.Need-slice-aggregate-copy
-slice-aggregate-copy c = search needs
-
 copy-requires : tie.Need-copy-requires
 copy-requires c κs = c .before .before .before .before .before .before .before .before .before .before .before .before .if1 .left
-
-same-length : tie.Need-same-length
-same-length c = search needs
-
-same-length-2 : tie.Need-same-length-2
-same-length-2 c = search needs
-
-same-length-3 : tie.Need-same-length-3
-same-length-3 c = search needs
-
-same-length-4 : tie.Need-same-length-4
-same-length-4 c = search needs
-
-same-length-5 : tie.Need-same-length-5
-same-length-5 c = search needs
 
 returns-2 : tie.Need-returns-2
 returns-2 c =
@@ -56,15 +29,15 @@ pub cirbaldu-run-spec : {M : Type 1} → statement M
 cirbaldu-run-spec =
     tie.close
     (tie.spec
-    read-requires
-    refuse-length-requires
+    (λ c κs. search needs)
+    (λ c κs. search needs)
     returns
-    run-requires
-    slice-aggregate-copy
+    (λ c κs. search needs)
+    (λ c. search needs)
     copy-requires
-    same-length
-    same-length-2
-    same-length-3
-    same-length-4
-    same-length-5
+    (λ c. search needs)
+    (λ c. search needs)
+    (λ c. search needs)
+    (λ c. search needs)
+    (λ c. search needs)
     returns-2)

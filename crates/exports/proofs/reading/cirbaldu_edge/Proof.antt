@@ -21,15 +21,6 @@ module _ (p : tie.After-edge-refusal-in) where
 asked : (t : tie.Then2) → let p = t .before .before in EdgeAsked (now (start p .args .sheet)) (p .before .read .result) (start p .args .edge)
 asked t = let p = t .before .before in asked-by (now (start p .args .sheet)) (p .before .read .ensures) (p .edge-refusal-in .ensures) (t .if2 .taken)
 
-read-requires : tie.Need-read-requires
-read-requires c κs = search needs
-
-edge-refusal-in-requires : tie.Need-edge-refusal-in-requires
-edge-refusal-in-requires c κs = search needs
-
-refuse-length-requires : tie.Need-refuse-length-requires
-refuse-length-requires c κs = search needs
-
 returns : tie.Need-returns
 returns c =
     let p = c .before .before in
@@ -39,23 +30,14 @@ returns c =
 store-span-requires : tie.Need-store-span-requires
 store-span-requires c κs = (asked (c .before), c .before .before .if1 .left)
 
-same-length : tie.Need-same-length
-same-length c = search needs
-
 returns-2 : tie.Need-returns-2
 returns-2 c =
     let t = c .before .before .before .before in
     let a = start (t .before .before) .args in
     shown-by (now (a .sheet)) (a .edge) (now (a .span)) (t .before .if1 .left) (sym (unrefused (now (a .sheet)) (asked t))) (c .before .before .store-span .ensures)
 
-slice-aggregate-copy : tie.Need-slice-aggregate-copy
-slice-aggregate-copy c = search needs
-
 copy-requires : tie.Need-copy-requires
 copy-requires c κs = c .before .before .before .if1 .left
-
-same-length-2 : tie.Need-same-length-2
-same-length-2 c = search needs
 
 returns-3 : tie.Need-returns-3
 returns-3 c =
@@ -69,14 +51,14 @@ pub cirbaldu-edge-spec : {M : Type 1} → statement M
 cirbaldu-edge-spec =
     tie.close
     (tie.spec
-    read-requires
-    edge-refusal-in-requires
-    refuse-length-requires
+    (λ c κs. search needs)
+    (λ c κs. search needs)
+    (λ c κs. search needs)
     returns
     store-span-requires
-    same-length
+    (λ c. search needs)
     returns-2
-    slice-aggregate-copy
+    (λ c. search needs)
     copy-requires
-    same-length-2
+    (λ c. search needs)
     returns-3)

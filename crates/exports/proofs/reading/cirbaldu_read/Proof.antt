@@ -64,20 +64,11 @@ module _ (m : tie.After-copy) where
   more : length starts ≡ 64
   more = ap length (m .copy .ensures) ∙ starts-are filled
 
-read-requires : tie.Need-read-requires
-read-requires c κs = search needs
-
-refuse-length-requires : tie.Need-refuse-length-requires
-refuse-length-requires c κs = search needs
-
 returns : tie.Need-returns
 returns c =
     let r = c .before .before in
     let q = r .before .before .before in
     read-ill (now (q .args .sheet)) (now (q .args .answer)) (c .before .if1 .taken) (c .refuse-length .ensures ∙ ap unlent (refusal-is (now (q .args .sheet)) (r .read .ensures)))
-
-slice-relend-prefix-copy-counts : tie.Need-slice-relend-prefix-copy-counts
-slice-relend-prefix-copy-counts c = search needs
 
 slice-aggregate-copy-counts : tie.Need-slice-aggregate-copy-counts
 slice-aggregate-copy-counts c = sym (six-taken (c .before .before .before .before .before .before .before .args .answer .now) (c .before .before .before .if1 .left))
@@ -85,38 +76,11 @@ slice-aggregate-copy-counts c = sym (six-taken (c .before .before .before .befor
 copy-counts-requires : tie.Need-copy-counts-requires
 copy-counts-requires c κs = six-taken (now (c .before .before .before .before .before .before .before .args .answer)) (c .before .before .before .if1 .left)
 
-slice-aggregate-copy : tie.Need-slice-aggregate-copy
-slice-aggregate-copy c = search needs
-
-sub-copy : tie.Need-sub-copy
-sub-copy c = search needs
-
-part-copy-start : tie.Need-part-copy-start
-part-copy-start c = search needs
-
-part-copy-end : tie.Need-part-copy-end
-part-copy-end c = search needs
-
 copy-requires : tie.Need-copy-requires
 copy-requires c κs = let p = c .before .before .before .before in second-long (answer p) (counts p) (long p) (six p) ∙ sym (starts-are p)
 
-slice-aggregate-copy-2 : tie.Need-slice-aggregate-copy-2
-slice-aggregate-copy-2 c = search needs
-
-sub-copy-2 : tie.Need-sub-copy-2
-sub-copy-2 c = search needs
-
-part-copy-start-2 : tie.Need-part-copy-start-2
-part-copy-start-2 c = search needs
-
-part-copy-end-2 : tie.Need-part-copy-end-2
-part-copy-end-2 c = search needs
-
 copy-requires-2 : tie.Need-copy-requires-2
 copy-requires-2 c κs = let p = c .before .before .before .before in third-long (answer (filled p)) (counts (filled p)) (long (filled p)) (six (filled p)) (starts p) (more p) ∙ sym (tables-are (filled p))
-
-same-length : tie.Need-same-length
-same-length c = search needs
 
 returns-2 : tie.Need-returns-2
 returns-2 c =
@@ -131,21 +95,21 @@ pub cirbaldu-read-spec : {M : Type 1} → statement M
 cirbaldu-read-spec =
     tie.close
     (tie.spec
-    read-requires
-    refuse-length-requires
+    (λ c κs. search needs)
+    (λ c κs. search needs)
     returns
-    slice-relend-prefix-copy-counts
+    (λ c. search needs)
     slice-aggregate-copy-counts
     copy-counts-requires
-    slice-aggregate-copy
-    sub-copy
-    part-copy-start
-    part-copy-end
+    (λ c. search needs)
+    (λ c. search needs)
+    (λ c. search needs)
+    (λ c. search needs)
     copy-requires
-    slice-aggregate-copy-2
-    sub-copy-2
-    part-copy-start-2
-    part-copy-end-2
+    (λ c. search needs)
+    (λ c. search needs)
+    (λ c. search needs)
+    (λ c. search needs)
     copy-requires-2
-    same-length
+    (λ c. search needs)
     returns-2)

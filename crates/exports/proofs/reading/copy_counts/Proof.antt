@@ -7,18 +7,6 @@ use borrow.Author.Needs.{needs}
 use Rattle.exports.proofs.reading.copy_counts.Statement.{statement}
 use Rattle.exports.proofs.reading.copy_counts.Tie as tie
 
-wide-requires : tie.Need-wide-requires
-wide-requires c κs = search needs
-
-slice-aggregate-copy : tie.Need-slice-aggregate-copy
-slice-aggregate-copy c = search needs
-
-copy-requires : tie.Need-copy-requires
-copy-requires c κs = search needs
-
-same-length : tie.Need-same-length
-same-length c = search needs
-
 returns : tie.Need-returns
 unfolding countsOf
 returns c =
@@ -27,4 +15,4 @@ returns c =
 
 pub copy-counts-spec : {M : Type 1} → statement M
 copy-counts-spec =
-    tie.close (tie.spec wide-requires slice-aggregate-copy copy-requires same-length returns)
+    tie.close (tie.spec (λ c κs. search needs) (λ c. search needs) (λ c κs. search needs) (λ c. search needs) returns)

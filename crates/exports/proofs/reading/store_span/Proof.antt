@@ -47,9 +47,6 @@ add-prices-2 c = omega (arith, few (c .before .before .before .before .before))
 table-at-requires : tie.Need-table-at-requires
 table-at-requires c κs = few (c .before .before .before .before .before) .edgesFew
 
-add-table-at : tie.Need-add-table-at
-add-table-at c = search needs
-
 table-at-requires-2 : tie.Need-table-at-requires-2
 table-at-requires-2 c κs = few (c .before .before .before .before .before .before) .edgesFew
 
@@ -64,15 +61,6 @@ sub-t10 c = omega (arith, ends c)
 
 mul-t12 : tie.Need-mul-t12
 mul-t12 c = omega (arith, ends c)
-
-slice-aggregate-copy : tie.Need-slice-aggregate-copy
-slice-aggregate-copy c = search needs
-
-copy-requires : tie.Need-copy-requires
-copy-requires c κs = search needs
-
-same-length : tie.Need-same-length
-same-length c = search needs
 
 returns : tie.Need-returns
 returns c =
@@ -90,13 +78,13 @@ store-span-spec =
     mul-prices-2
     add-prices-2
     table-at-requires
-    add-table-at
+    (λ c. search needs)
     table-at-requires-2
     mul-t11
     add-t9
     sub-t10
     mul-t12
-    slice-aggregate-copy
-    copy-requires
-    same-length
+    (λ c. search needs)
+    (λ c κs. search needs)
+    (λ c. search needs)
     returns)

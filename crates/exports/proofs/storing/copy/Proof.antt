@@ -20,31 +20,10 @@ abbrev μ-loop : tie.MeasureT-loop
 loop-holds : tie.Need-loop-holds Inv-loop μ-loop
 loop-holds c = fill-none _ _
 
-mul-lent : tie.Need-mul-lent Inv-loop μ-loop
-mul-lent c = search needs
-
-shared-slice-read-lent : tie.Need-shared-slice-read-lent Inv-loop μ-loop
-shared-slice-read-lent c = search needs
-
-mul-lent-2 : tie.Need-mul-lent-2 Inv-loop μ-loop
-mul-lent-2 c = omega arith
-
-slice-write-lent : tie.Need-slice-write-lent Inv-loop μ-loop
-slice-write-lent c = omega arith
-
-add-i : tie.Need-add-i Inv-loop μ-loop
-add-i c = omega arith
-
-loop-less : tie.Need-loop-less Inv-loop μ-loop
-loop-less c = omega arith
-
 loop-again : tie.Need-loop-again Inv-loop μ-loop
 loop-again c =
     let q = c .before .before in
     fill-more (λ k. getD (now (q .before .args .values)) k 0) 0 (q .loop .inv) (omega arith)
-
-same-length : tie.Need-same-length Inv-loop μ-loop
-same-length c = search needs
 
 returns : tie.Need-returns Inv-loop μ-loop
 returns c =
@@ -59,12 +38,12 @@ copy-spec =
     Inv-loop
     μ-loop
     loop-holds
-    mul-lent
-    shared-slice-read-lent
-    mul-lent-2
-    slice-write-lent
-    add-i
-    loop-less
+    (λ c. search needs)
+    (λ c. search needs)
+    (λ c. omega arith)
+    (λ c. omega arith)
+    (λ c. omega arith)
+    (λ c. omega arith)
     loop-again
-    same-length
+    (λ c. search needs)
     returns)

@@ -13,15 +13,6 @@ returns-2 c =
     let s = c .before .if1 .left in
     let e = c .if2 .taken in counted-by (c .before .before .args .len) (c .before .before .args .stride) 0 (omega arith) (omega arith) (omega arith)
 
-sub-last : tie.Need-sub-last
-sub-last c = search needs
-
-div-last : tie.Need-div-last
-div-last c = search needs
-
-add-result : tie.Need-add-result
-add-result c = search needs
-
 returns-3 : tie.Need-returns-3
 returns-3 c = let a = c .before .before .before .args in counted-few (a .len) (a .stride) (omega arith) (omega arith) (c .if3 .taken)
 
@@ -29,4 +20,4 @@ returns-4 : tie.Need-returns-4
 returns-4 c = let a = c .before .before .before .args in counted-most (a .len) (a .stride) (omega arith) (omega arith) (c .if3 .left)
 
 pub count-spec : {M : Type 1} → statement M
-count-spec = tie.close (tie.spec returns returns-2 sub-last div-last add-result returns-3 returns-4)
+count-spec = tie.close (tie.spec returns returns-2 (λ c. search needs) (λ c. search needs) (λ c. search needs) returns-3 returns-4)

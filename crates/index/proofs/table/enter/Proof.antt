@@ -8,45 +8,6 @@ use borrow.Author.Needs.{needs}
 use Rattle.index.proofs.table.enter.Statement.{statement}
 use Rattle.index.proofs.table.enter.Tie as tie
 
-mul-row : tie.Need-mul-row
-mul-row c = search needs
-
-mul-number : tie.Need-mul-number
-mul-number c = search needs
-
-element-copy-out-number : tie.Need-element-copy-out-number
-element-copy-out-number c = search needs
-
-number-requires : tie.Need-number-requires
-number-requires c κs = search needs
-
-add-at : tie.Need-add-at
-add-at c = search needs
-
-add-at-2 : tie.Need-add-at-2
-add-at-2 c = search needs
-
-short-requires : tie.Need-short-requires
-short-requires c κs = search needs
-
-mul-index : tie.Need-mul-index
-mul-index c = search needs
-
-element-write-index : tie.Need-element-write-index
-element-write-index c = search needs
-
-add-short : tie.Need-add-short
-add-short c = search needs
-
-short-requires-2 : tie.Need-short-requires-2
-short-requires-2 c κs = search needs
-
-mul-index-2 : tie.Need-mul-index-2
-mul-index-2 c = search needs
-
-element-write-index-2 : tie.Need-element-write-index-2
-element-write-index-2 c = search needs
-
 returns : tie.Need-returns
 returns c =
     let a = c .before .before .before .before .before .before .args in
@@ -68,19 +29,19 @@ pub enter-spec : {M : Type 1} → statement M
 enter-spec =
     tie.close
     (tie.spec
-    mul-row
-    mul-number
-    element-copy-out-number
-    number-requires
-    add-at
-    add-at-2
-    short-requires
-    mul-index
-    element-write-index
-    add-short
-    short-requires-2
-    mul-index-2
-    element-write-index-2
+    (λ c. search needs)
+    (λ c. search needs)
+    (λ c. search needs)
+    (λ c κs. search needs)
+    (λ c. search needs)
+    (λ c. search needs)
+    (λ c κs. search needs)
+    (λ c. search needs)
+    (λ c. search needs)
+    (λ c. search needs)
+    (λ c κs. search needs)
+    (λ c. search needs)
+    (λ c. search needs)
     returns
     returns-2
     returns-3)

@@ -34,9 +34,6 @@ module _ (p : tie.In-loop Inv-loop μ-loop) where
   inside : stride * i < length bytes
   inside = thing-is (length bytes) stride i (counted .each i (p .loop-test .taken))
 
-count-requires : tie.Need-count-requires Inv-loop μ-loop
-count-requires c κs = search needs
-
 loop-holds : tie.Need-loop-holds Inv-loop μ-loop
 loop-holds c = (omega arith, filled-none (keyAt (now (c .before .before .args .bytes)) (c .before .before .args .stride)))
 
@@ -45,9 +42,6 @@ mul-wide c = omega (arith, inside (c .before), c .before .before .before .before
 
 shared-slice-read-wide : tie.Need-shared-slice-read-wide Inv-loop μ-loop
 shared-slice-read-wide c = inside (c .before .before)
-
-wide-requires : tie.Need-wide-requires Inv-loop μ-loop
-wide-requires c κs = search needs
 
 enter-requires : tie.Need-enter-requires Inv-loop μ-loop
 enter-requires c κs = let p = c .before .before .before in omega (arith, counted p .few, p .loop-test .taken)
@@ -78,11 +72,11 @@ index-by-spec =
     (tie.spec
     Inv-loop
     μ-loop
-    count-requires
+    (λ c κs. search needs)
     loop-holds
     mul-wide
     shared-slice-read-wide
-    wide-requires
+    (λ c κs. search needs)
     enter-requires
     add-thing
     loop-less

@@ -7,14 +7,8 @@ use borrow.Author.Needs.{needs}
 use Rattle.instance.proofs.bytes.price_of.Statement.{statement}
 use Rattle.instance.proofs.bytes.price_of.Tie as tie
 
-word-of-requires : tie.Need-word-of-requires
-word-of-requires c κs = search needs
-
-signed-requires : tie.Need-signed-requires
-signed-requires c κs = search needs
-
 returns : tie.Need-returns
 returns c = same (c .signed .result) (c .signed .ok) ∙ c .signed .ensures ∙ ap (toZ w32) (c .before .word-of .ensures)
 
 pub price-of-spec : {M : Type 1} → statement M
-price-of-spec = tie.close (tie.spec word-of-requires signed-requires returns)
+price-of-spec = tie.close (tie.spec (λ c κs. search needs) (λ c κs. search needs) returns)

@@ -26,12 +26,6 @@ loop-holds c = (omega arith, leasts-none _ _)
 label-at-requires : tie.Need-label-at-requires Inv-loop μ-loop
 label-at-requires c κs = let q = c .before .before .before in (q .pre .0, omega (arith, c .loop-test .taken, q .pre .1 .size))
 
-mul-smaller : tie.Need-mul-smaller Inv-loop μ-loop
-mul-smaller c = omega arith
-
-shared-slice-copy-out-smaller : tie.Need-shared-slice-copy-out-smaller Inv-loop μ-loop
-shared-slice-copy-out-smaller c = omega arith
-
 mul-smaller-2 : tie.Need-mul-smaller-2 Inv-loop μ-loop
 mul-smaller-2 c = omega (arith, c .before .label-at .ensures .1)
 
@@ -43,12 +37,6 @@ mul-least c = omega (arith, c .before .before .before .label-at .ensures .1)
 
 array-set-from-least : tie.Need-array-set-from-least Inv-loop μ-loop
 array-set-from-least c = c .before .before .before .label-at .ensures .1
-
-add-i : tie.Need-add-i Inv-loop μ-loop
-add-i c = omega arith
-
-loop-less : tie.Need-loop-less Inv-loop μ-loop
-loop-less c = omega arith
 
 loop-again : tie.Need-loop-again Inv-loop μ-loop
 loop-again c =
@@ -77,14 +65,14 @@ label-leasts-spec =
     μ-loop
     loop-holds
     label-at-requires
-    mul-smaller
-    shared-slice-copy-out-smaller
+    (λ c. omega arith)
+    (λ c. omega arith)
     mul-smaller-2
     array-copy-out-smaller
     (λ c κs. search needs)
     mul-least
     array-set-from-least
-    add-i
-    loop-less
+    (λ c. omega arith)
+    (λ c. omega arith)
     loop-again
     returns)

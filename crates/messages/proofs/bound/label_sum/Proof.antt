@@ -22,23 +22,11 @@ abbrev μ-loop : tie.MeasureT-loop
 loop-holds : tie.Need-loop-holds Inv-loop μ-loop
 loop-holds c = (omega arith, added-none _ _)
 
-mul-plus : tie.Need-mul-plus Inv-loop μ-loop
-mul-plus c = omega arith
-
-element-copy-out-plus : tie.Need-element-copy-out-plus Inv-loop μ-loop
-element-copy-out-plus c = omega arith
-
 plus-requires : tie.Need-plus-requires Inv-loop μ-loop
 plus-requires c κs =
     let q = c .before .before in
     let x = getD (now (q .before .args .least)) (q .loop .l) (pos 0) in
     rw (same x (c .plus-arg .given)) (added-fits (q .loop .inv .1) x (q .before .pre .1 (q .loop .l)) (omega arith) (omega arith))
-
-add-l : tie.Need-add-l Inv-loop μ-loop
-add-l c = omega arith
-
-loop-less : tie.Need-loop-less Inv-loop μ-loop
-loop-less c = omega arith
 
 loop-again : tie.Need-loop-again Inv-loop μ-loop
 loop-again c =
@@ -56,10 +44,10 @@ label-sum-spec =
     Inv-loop
     μ-loop
     loop-holds
-    mul-plus
-    element-copy-out-plus
+    (λ c. omega arith)
+    (λ c. omega arith)
     plus-requires
-    add-l
-    loop-less
+    (λ c. omega arith)
+    (λ c. omega arith)
     loop-again
     returns)

@@ -46,12 +46,6 @@ add-to c = omega (arith, inside c)
 mul-least-of : tie.Need-mul-least-of Inv-loop μ-loop
 mul-least-of c = omega (arith, inside c)
 
-sub-least-of : tie.Need-sub-least-of Inv-loop μ-loop
-sub-least-of c = omega arith
-
-part-least-of-start : tie.Need-part-least-of-start Inv-loop μ-loop
-part-least-of-start c = omega arith
-
 part-least-of-end : tie.Need-part-least-of-end Inv-loop μ-loop
 part-least-of-end c = omega (arith, inside c)
 
@@ -64,12 +58,6 @@ plus-requires c κs =
     let q = start p in
     rw (same (c .least-of .result) (c .least-of .ok), c .least-of .ensures)
     (summed-fits (parts p) (head p .loop .inv) (p .before .loop-test .taken) (p .size-of .result) _ (p .size-of .ensures) refl (omega (arith, few (q .pre .0 .0) (q .args .of-edges), q .pre .0 .1)))
-
-add-k : tie.Need-add-k Inv-loop μ-loop
-add-k c = omega arith
-
-loop-less : tie.Need-loop-less Inv-loop μ-loop
-loop-less c = omega arith
 
 loop-again : tie.Need-loop-again Inv-loop μ-loop
 loop-again c =
@@ -90,12 +78,12 @@ least-sum-spec =
     size-of-requires
     add-to
     mul-least-of
-    sub-least-of
-    part-least-of-start
+    (λ c. omega arith)
+    (λ c. omega arith)
     part-least-of-end
     least-of-requires
     plus-requires
-    add-k
-    loop-less
+    (λ c. omega arith)
+    (λ c. omega arith)
     loop-again
     returns)

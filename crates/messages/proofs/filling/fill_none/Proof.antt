@@ -18,15 +18,6 @@ abbrev μ-loop : tie.MeasureT-loop
 loop-holds : tie.Need-loop-holds Inv-loop μ-loop
 loop-holds c = fill-none (λ k. 255) _
 
-slice-write-incumbent : tie.Need-slice-write-incumbent Inv-loop μ-loop
-slice-write-incumbent c = omega arith
-
-add-i : tie.Need-add-i Inv-loop μ-loop
-add-i c = omega arith
-
-loop-less : tie.Need-loop-less Inv-loop μ-loop
-loop-less c = omega arith
-
 loop-again : tie.Need-loop-again Inv-loop μ-loop
 loop-again c = fill-more (λ k. 255) 0 (c .before .loop .inv) (omega arith)
 
@@ -40,9 +31,9 @@ fill-none-spec =
     Inv-loop
     μ-loop
     loop-holds
-    slice-write-incumbent
-    add-i
-    loop-less
+    (λ c. omega arith)
+    (λ c. omega arith)
+    (λ c. omega arith)
     loop-again
     (λ c. search needs)
     returns)

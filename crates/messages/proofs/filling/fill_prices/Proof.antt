@@ -21,24 +21,6 @@ abbrev μ-loop : tie.MeasureT-loop
 loop-holds : tie.Need-loop-holds Inv-loop μ-loop
 loop-holds c = fill-none _ _
 
-mul-price-at : tie.Need-mul-price-at Inv-loop μ-loop
-mul-price-at c = omega arith
-
-add-price-at : tie.Need-add-price-at Inv-loop μ-loop
-add-price-at c = omega arith
-
-mul-t9 : tie.Need-mul-t9 Inv-loop μ-loop
-mul-t9 c = omega arith
-
-slice-set-from-costs : tie.Need-slice-set-from-costs Inv-loop μ-loop
-slice-set-from-costs c = omega arith
-
-add-i : tie.Need-add-i Inv-loop μ-loop
-add-i c = omega arith
-
-loop-less : tie.Need-loop-less Inv-loop μ-loop
-loop-less c = omega arith
-
 loop-again : tie.Need-loop-again Inv-loop μ-loop
 loop-again c =
     let q = c .before .before in
@@ -57,13 +39,13 @@ fill-prices-spec =
     Inv-loop
     μ-loop
     loop-holds
-    mul-price-at
-    add-price-at
+    (λ c. omega arith)
+    (λ c. omega arith)
     (λ c κs. search needs)
-    mul-t9
-    slice-set-from-costs
-    add-i
-    loop-less
+    (λ c. omega arith)
+    (λ c. omega arith)
+    (λ c. omega arith)
+    (λ c. omega arith)
     loop-again
     (λ c. search needs)
     returns)

@@ -19,18 +19,6 @@ abbrev μ-loop : tie.MeasureT-loop
 loop-holds : tie.Need-loop-holds Inv-loop μ-loop
 loop-holds c = fill-none (λ k. pos 0) _
 
-mul-costs : tie.Need-mul-costs Inv-loop μ-loop
-mul-costs c = omega arith
-
-slice-set-of-costs : tie.Need-slice-set-of-costs Inv-loop μ-loop
-slice-set-of-costs c = omega arith
-
-add-i : tie.Need-add-i Inv-loop μ-loop
-add-i c = omega arith
-
-loop-less : tie.Need-loop-less Inv-loop μ-loop
-loop-less c = omega arith
-
 loop-again : tie.Need-loop-again Inv-loop μ-loop
 loop-again c = fill-more (λ k. pos 0) (pos 0) (c .before .loop .inv) (omega arith)
 
@@ -44,10 +32,10 @@ fill-zero-spec =
     Inv-loop
     μ-loop
     loop-holds
-    mul-costs
-    slice-set-of-costs
-    add-i
-    loop-less
+    (λ c. omega arith)
+    (λ c. omega arith)
+    (λ c. omega arith)
+    (λ c. omega arith)
     loop-again
     (λ c. search needs)
     returns)

@@ -68,12 +68,6 @@ price-at-requires c κs = let p = c .before in edge-price-here (start p .pre .0 
 add-sum : tie.Need-add-sum Inv-loop μ-loop
 add-sum c = rw (same (c .price-at .result) (c .price-at .ok)) (fits c)
 
-add-e : tie.Need-add-e Inv-loop μ-loop
-add-e c = omega arith
-
-loop-less : tie.Need-loop-less Inv-loop μ-loop
-loop-less c = omega arith
-
 loop-again : tie.Need-loop-again Inv-loop μ-loop
 loop-again c =
     let p = cell c in
@@ -97,7 +91,7 @@ edge-part-spec =
     add-price-at
     price-at-requires
     add-sum
-    add-e
-    loop-less
+    (λ c. omega arith)
+    (λ c. omega arith)
     loop-again
     returns)

@@ -99,12 +99,6 @@ returns-2 c =
 array-write-untaken : tie.Need-array-write-untaken Inv-loop μ-loop
 array-write-untaken c = let p = turn (c .before .before .before) in omega (arith, c .before .label-at .ensures .1, untaken-long (instanceOf (s p)) (x p) (p .before .loop .inv))
 
-add-u : tie.Need-add-u Inv-loop μ-loop
-add-u c = omega arith
-
-loop-less : tie.Need-loop-less Inv-loop μ-loop
-loop-less c = omega arith
-
 loop-again : tie.Need-loop-again Inv-loop μ-loop
 loop-again c =
     let p = turn (c .before .before .before) in
@@ -132,8 +126,8 @@ is-matching-spec =
     label-at-requires
     array-read-if2
     array-write-untaken
-    add-u
-    loop-less
+    (λ c. omega arith)
+    (λ c. omega arith)
     loop-again
     returns-2
     returns-3)

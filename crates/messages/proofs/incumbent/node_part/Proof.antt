@@ -99,12 +99,6 @@ price-at-requires c κs = let w = c .before in let p = w .before .before .before
 add-sum : tie.Need-add-sum Inv-loop μ-loop
 add-sum c = rw (same (c .price-at .result) (c .price-at .ok)) (fits c)
 
-add-u : tie.Need-add-u Inv-loop μ-loop
-add-u c = omega arith
-
-loop-less : tie.Need-loop-less Inv-loop μ-loop
-loop-less c = omega arith
-
 loop-again : tie.Need-loop-again Inv-loop μ-loop
 loop-again c = (omega arith, rw (same (c .price-at .result) (c .price-at .ok), toZ-ofZ (fits c)) (added-more (turn c .before .loop .inv .1) (c .price-at .result) (small c) (price c)))
 
@@ -130,7 +124,7 @@ node-part-spec =
     add-price-at-2
     price-at-requires
     add-sum
-    add-u
-    loop-less
+    (λ c. omega arith)
+    (λ c. omega arith)
     loop-again
     returns)

@@ -83,15 +83,6 @@ module _ (p : tie.After-one-record Inv-loop μ-loop) where
 loop-holds : tie.Need-loop-holds Inv-loop μ-loop
 loop-holds c = let q = c .before .before .before in going-start (now (q .args .sheet)) (q .args .view .limit) (now (q .args .records)) (lends q) (q .pre .1 .1 .0) (q .pre .1 .1 .1)
 
-sub-record-of : tie.Need-sub-record-of Inv-loop μ-loop
-sub-record-of c = omega arith
-
-part-record-of-start : tie.Need-part-record-of-start Inv-loop μ-loop
-part-record-of-start c = omega arith
-
-part-record-of-end : tie.Need-part-record-of-end Inv-loop μ-loop
-part-record-of-end c = omega arith
-
 record-of-requires : tie.Need-record-of-requires Inv-loop μ-loop
 record-of-requires c κs = let h = c .before .before in rw (tail-part (h .loop .at) (l h)) (going-bytes (h .loop .inv) (c .before .loop-test .taken))
 
@@ -150,9 +141,9 @@ run-all-spec =
     Inv-loop
     μ-loop
     loop-holds
-    sub-record-of
-    part-record-of-start
-    part-record-of-end
+    (λ c. omega arith)
+    (λ c. omega arith)
+    (λ c. omega arith)
     record-of-requires
     one-record-requires
     same-length

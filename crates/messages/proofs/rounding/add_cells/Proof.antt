@@ -70,12 +70,6 @@ mul-t12 c = omega (arith, long (c .before .before .before))
 slice-set-from-keys : tie.Need-slice-set-from-keys Inv-loop μ-loop
 slice-set-from-keys c = omega (arith, long (c .before .before .before))
 
-add-i : tie.Need-add-i Inv-loop μ-loop
-add-i c = omega arith
-
-loop-less : tie.Need-loop-less Inv-loop μ-loop
-loop-less c = omega arith
-
 loop-again : tie.Need-loop-again Inv-loop μ-loop
 loop-again c =
     rw (same (getD (head c .loop .keys) (i c) (pos 0)) (c .before .keys .given), same (getD (row c) (i c) (pos 0)) (c .keys2 .given), toZ-ofZ (fits c)) (
@@ -106,8 +100,8 @@ add-cells-spec =
     add-keys
     mul-t12
     slice-set-from-keys
-    add-i
-    loop-less
+    (λ c. omega arith)
+    (λ c. omega arith)
     loop-again
     same-length
     returns)

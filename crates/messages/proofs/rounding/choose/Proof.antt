@@ -46,12 +46,6 @@ better-of-requires c κs =
     let a = q .args in
     (omega (arith, h .loop .inv .1, chosen-few (I q) (a .at) (now (a .keys)) (now (a .untaken)) (h .loop .k) (omega (arith, q .pre .1, h .loop .inv .0))), omega (arith, q .pre .1, c .before .before .loop-test .taken))
 
-add-k : tie.Need-add-k Inv-loop μ-loop
-add-k c = omega arith
-
-loop-less : tie.Need-loop-less Inv-loop μ-loop
-loop-less c = omega arith
-
 loop-again : tie.Need-loop-again Inv-loop μ-loop
 loop-again c =
     let l = c .before .before in
@@ -82,7 +76,7 @@ choose-spec =
     label-at-requires
     element-copy-out-better-of
     better-of-requires
-    add-k
-    loop-less
+    (λ c. omega arith)
+    (λ c. omega arith)
     loop-again
     returns)

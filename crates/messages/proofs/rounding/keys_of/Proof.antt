@@ -150,12 +150,6 @@ add-end c = omega (arith, room c, short (entry c))
 mul-add-cells : tie.Need-mul-add-cells Inv-loop μ-loop
 mul-add-cells c = omega (arith, room (c .before), short (entry (c .before)))
 
-sub-add-cells : tie.Need-sub-add-cells Inv-loop μ-loop
-sub-add-cells c = omega arith
-
-part-add-cells-start : tie.Need-part-add-cells-start Inv-loop μ-loop
-part-add-cells-start c = omega arith
-
 part-add-cells-end : tie.Need-part-add-cells-end Inv-loop μ-loop
 part-add-cells-end c = room (c .before)
 
@@ -253,8 +247,8 @@ keys-of-spec =
     add-end
     (λ c. search needs)
     mul-add-cells
-    sub-add-cells
-    part-add-cells-start
+    (λ c. omega arith)
+    (λ c. omega arith)
     part-add-cells-end
     add-cells-requires
     mul-row

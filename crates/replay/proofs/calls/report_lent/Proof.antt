@@ -6,18 +6,6 @@ use borrow.Author.Needs.{needs}
 use Rattle.replay.proofs.calls.report_lent.Statement.{statement}
 use Rattle.replay.proofs.calls.report_lent.Tie as tie
 
-at-most-requires : tie.Need-at-most-requires
-at-most-requires c κs = search needs
-
-at-most-requires-2 : tie.Need-at-most-requires-2
-at-most-requires-2 c κs = search needs
-
-at-most-requires-3 : tie.Need-at-most-requires-3
-at-most-requires-3 c κs = search needs
-
-at-most-requires-4 : tie.Need-at-most-requires-4
-at-most-requires-4 c κs = search needs
-
 slice-aggregate-report : tie.Need-slice-aggregate-report
 slice-aggregate-report c = sym (length-take-le _ _ (omega arith))
 
@@ -30,23 +18,17 @@ slice-aggregate-report-3 c = sym (length-take-le _ _ (omega arith))
 slice-aggregate-report-4 : tie.Need-slice-aggregate-report-4
 slice-aggregate-report-4 c = sym (length-take-le _ _ (omega arith))
 
-report-requires : tie.Need-report-requires
-report-requires c κs = search needs
-
-returns : tie.Need-returns
-returns c = search needs
-
 pub report-lent-spec : {M : Type 1} → statement M
 report-lent-spec =
     tie.close
     (tie.spec
-    at-most-requires
-    at-most-requires-2
-    at-most-requires-3
-    at-most-requires-4
+    (λ c κs. search needs)
+    (λ c κs. search needs)
+    (λ c κs. search needs)
+    (λ c κs. search needs)
     slice-aggregate-report
     slice-aggregate-report-2
     slice-aggregate-report-3
     slice-aggregate-report-4
-    report-requires
-    returns)
+    (λ c κs. search needs)
+    (λ c. search needs))

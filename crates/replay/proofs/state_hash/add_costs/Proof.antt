@@ -10,45 +10,18 @@ Inv-loop hash costs count h₀ i₀ h i = h < 4294967291
 abbrev μ-loop : tie.MeasureT-loop
 μ-loop hash costs count h₀ i₀ h i = count - i
 
-loop-holds : tie.Need-loop-holds Inv-loop μ-loop
-loop-holds c = search needs
-
-mul-add-cost : tie.Need-mul-add-cost Inv-loop μ-loop
-mul-add-cost c = search needs
-
-element-copy-out-add-cost : tie.Need-element-copy-out-add-cost Inv-loop μ-loop
-element-copy-out-add-cost c = search needs
-
-add-cost-requires : tie.Need-add-cost-requires Inv-loop μ-loop
-add-cost-requires c κs = search needs
-
-add-i : tie.Need-add-i Inv-loop μ-loop
-add-i c = search needs
-
-loop-less : tie.Need-loop-less Inv-loop μ-loop
-loop-less c = search needs
-
-loop-again : tie.Need-loop-again Inv-loop μ-loop
-loop-again c = search needs
-
-returns : tie.Need-returns Inv-loop μ-loop
-returns c = search needs
-
-returns-2 : tie.Need-returns-2 Inv-loop μ-loop
-returns-2 c = search needs
-
 pub add-costs-spec : {M : Type 1} → statement M
 add-costs-spec =
     tie.close
     (tie.spec
     Inv-loop
     μ-loop
-    loop-holds
-    mul-add-cost
-    element-copy-out-add-cost
-    add-cost-requires
-    add-i
-    loop-less
-    loop-again
-    returns
-    returns-2)
+    (λ c. search needs)
+    (λ c. search needs)
+    (λ c. search needs)
+    (λ c κs. search needs)
+    (λ c. search needs)
+    (λ c. search needs)
+    (λ c. search needs)
+    (λ c. search needs)
+    (λ c. search needs))

@@ -65,9 +65,6 @@ mul-number c = omega (arith, inside c)
 element-copy-out-number : tie.Need-element-copy-out-number Inv-loop μ-loop
 element-copy-out-number c = inside c
 
-number-requires : tie.Need-number-requires Inv-loop μ-loop
-number-requires c κs = search needs
-
 put-requires : tie.Need-put-requires Inv-loop μ-loop
 put-requires c κs =
     let n = c .before in
@@ -109,7 +106,7 @@ from-label-spec =
     thing-requires
     mul-number
     element-copy-out-number
-    number-requires
+    (λ c κs. search needs)
     put-requires
     add-j
     loop-less

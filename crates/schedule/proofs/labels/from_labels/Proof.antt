@@ -23,12 +23,6 @@ f q = labelBy (now (q .args .places)) (now (q .args .spots))
 loop-holds : tie.Need-loop-holds Inv-loop μ-loop
 loop-holds c = let q = c .before in (omega arith, each-start (f q) (now (q .args .out)) (q .args .at) (downward-start (q .args .labels)))
 
-add-passed : tie.Need-add-passed Inv-loop μ-loop
-add-passed c = omega arith
-
-sub-label : tie.Need-sub-label Inv-loop μ-loop
-sub-label c = omega arith
-
 from-label-requires : tie.Need-from-label-requires Inv-loop μ-loop
 from-label-requires c κs =
     let i = c .before in
@@ -36,9 +30,6 @@ from-label-requires c κs =
     let h = i .loop-test .taken in
     let l = q .args .labels - (i .before .loop .passed + 1) in
     (q .pre .0, (omega (arith, q .pre .1 .0, h), room-as (length-label (now (q .args .places)) (now (q .args .spots)) l) (each-room (f q) (i .before .loop .inv .1) (downward-more h) (q .pre .1 .1))))
-
-loop-less : tie.Need-loop-less Inv-loop μ-loop
-loop-less c = omega arith
 
 loop-again : tie.Need-loop-again Inv-loop μ-loop
 loop-again c = let i = c .before .before .before .before in (omega arith, each-more (f (i .before .before .before)) (i .before .loop .inv .1) (downward-more (i .loop-test .taken)) (c .before .before .from-label .ensures))
@@ -56,10 +47,10 @@ from-labels-spec =
     Inv-loop
     μ-loop
     loop-holds
-    add-passed
-    sub-label
+    (λ c. omega arith)
+    (λ c. omega arith)
     from-label-requires
-    loop-less
+    (λ c. omega arith)
     loop-again
     same-length
     returns)

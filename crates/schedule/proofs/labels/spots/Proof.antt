@@ -24,9 +24,6 @@ loop-holds c = let f = byte (now (c .before .args .sheet)) in (omega arith, sym 
 shared-slice-read-wide : tie.Need-shared-slice-read-wide Inv-loop μ-loop
 shared-slice-read-wide c = let i = c .before .before in omega (arith, i .loop-test .taken, i .before .before .before .pre)
 
-wide-requires : tie.Need-wide-requires Inv-loop μ-loop
-wide-requires c κs = search needs
-
 mark-requires : tie.Need-mark-requires Inv-loop μ-loop
 mark-requires c κs =
     let i = c .before .before .before in
@@ -68,7 +65,7 @@ spots-spec =
     μ-loop
     loop-holds
     shared-slice-read-wide
-    wide-requires
+    (λ c κs. search needs)
     mark-requires
     add-u
     loop-less

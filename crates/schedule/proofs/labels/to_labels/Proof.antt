@@ -32,12 +32,6 @@ put-requires c κs =
       (omega arith, omega arith, omega arith),
     )
 
-add-k : tie.Need-add-k Inv-loop μ-loop
-add-k c = omega arith
-
-loop-less : tie.Need-loop-less Inv-loop μ-loop
-loop-less c = omega arith
-
 loop-again : tie.Need-loop-again Inv-loop μ-loop
 loop-again c =
     let n = c .before .before .before .before in
@@ -53,4 +47,4 @@ returns c = writing-as (ap (map (f (c .before .before .before .args .u))) (onwar
 pub to-labels-spec : {M : Type 1} → statement M
 to-labels-spec =
     tie.close
-    (tie.spec Inv-loop μ-loop loop-holds put-requires add-k loop-less loop-again same-length returns)
+    (tie.spec Inv-loop μ-loop loop-holds put-requires (λ c. omega arith) (λ c. omega arith) loop-again same-length returns)

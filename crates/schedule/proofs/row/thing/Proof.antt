@@ -3,35 +3,14 @@ use borrow.Author.Needs.{needs}
 use Rattle.schedule.proofs.row.thing.Statement.{statement}
 use Rattle.schedule.proofs.row.thing.Tie as tie
 
-mul-number : tie.Need-mul-number
-mul-number c = search needs
-
-add-number : tie.Need-add-number
-add-number c = search needs
-
-add-number-2 : tie.Need-add-number-2
-add-number-2 c = search needs
-
-mul-number-2 : tie.Need-mul-number-2
-mul-number-2 c = search needs
-
-element-copy-out-number : tie.Need-element-copy-out-number
-element-copy-out-number c = search needs
-
-number-requires : tie.Need-number-requires
-number-requires c κs = search needs
-
-returns : tie.Need-returns
-returns c = search needs
-
 pub thing-spec : {M : Type 1} → statement M
 thing-spec =
     tie.close
     (tie.spec
-    mul-number
-    add-number
-    add-number-2
-    mul-number-2
-    element-copy-out-number
-    number-requires
-    returns)
+    (λ c. search needs)
+    (λ c. search needs)
+    (λ c. search needs)
+    (λ c. search needs)
+    (λ c. search needs)
+    (λ c κs. search needs)
+    (λ c. search needs))

@@ -44,9 +44,6 @@ module _ (x : tie.After-edges-by) where
   lists : each (backwardBy (now (start .args .lower)) (x .edges-by .result)) (falling (start .args .counts .nodes)) ≡ nodes start
   lists = backward-nodes (start .pre .0) (lower start) higher
 
-edges-by-requires : tie.Need-edges-by-requires
-edges-by-requires c κs = search needs
-
 backward-labels-requires : tie.Need-backward-labels-requires
 backward-labels-requires c κs = let q = start (c .before) in (q .pre .0, room-left (labels q) (nodes q ++ rounding) (room q))
 
@@ -66,9 +63,6 @@ put-requires c κs =
     let r = room-right (labels q) (nodes q ++ rounding) (c .before .before .before .before .before .before .before .before .backward-labels .ensures) (room q) in
     (room-right (nodes q) rounding (writing-for (lists x) (c .before .before .before .backward-nodes .ensures)) r, (omega arith, omega arith, omega arith))
 
-same-length : tie.Need-same-length
-same-length c = search needs
-
 returns : tie.Need-returns
 unfolding backward rounding
 returns c =
@@ -81,9 +75,9 @@ pub backward-spec : {M : Type 1} → statement M
 backward-spec =
     tie.close
     (tie.spec
-    edges-by-requires
+    (λ c κs. search needs)
     backward-labels-requires
     backward-nodes-requires
     put-requires
-    same-length
+    (λ c. search needs)
     returns)

@@ -24,13 +24,10 @@ to-edges-requires c κs =
     let q = c .before .before .before .before .before .before in
     ((q .pre .1 .1 .0, q .pre .0 .few (q .args .u) (q .pre .1 .1 .0), omega arith), room-as (length-sent (now (q .args .lower)) 0 (q .args .u)) (room-right (first q) (last q) (c .before .before .before .from-edges .ensures) (q .pre .1 .1 .1)))
 
-same-length : tie.Need-same-length
-same-length c = search needs
-
 returns : tie.Need-returns
 returns c =
     let q = c .before .before .before .before .before .before .before .before .before in
     wrote-append (first q) (last q) (c .before .before .before .before .before .before .from-edges .ensures) (c .before .before .to-edges .ensures)
 
 pub backward-at-spec : {M : Type 1} → statement M
-backward-at-spec = tie.close (tie.spec from-edges-requires to-edges-requires same-length returns)
+backward-at-spec = tie.close (tie.spec from-edges-requires to-edges-requires (λ c. search needs) returns)

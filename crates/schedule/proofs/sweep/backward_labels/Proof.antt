@@ -35,17 +35,8 @@ module _ (x : tie.After-spots) where
 add-prices : tie.Need-add-prices
 add-prices c = omega (arith, sizes (c .before .before .before .pre .0))
 
-sub-index-by : tie.Need-sub-index-by
-sub-index-by c = search needs
-
-part-index-by-start : tie.Need-part-index-by-start
-part-index-by-start c = search needs
-
 part-index-by-end : tie.Need-part-index-by-end
 part-index-by-end c = omega (arith, label-bytes (c .before .before .before .pre .0))
-
-index-by-requires : tie.Need-index-by-requires
-index-by-requires c κs = search needs
 
 spots-requires : tie.Need-spots-requires
 spots-requires c κs = let w = c .before .before .before .before .before .pre .0 in (node-bytes w, nodes-few w, places-few w)
@@ -56,9 +47,6 @@ from-labels-requires c κs =
     let w = start x .pre .0 in
     (place-rows w (placed x) (x .spots .ensures), (labels-64 w, room-as (ap length (sym (lists x))) (start x .pre .1)))
 
-same-length : tie.Need-same-length
-same-length c = search needs
-
 returns : tie.Need-returns
 returns c = writing-for (lists (c .before .before .before .before .before .before)) (c .before .before .from-labels .ensures)
 
@@ -67,11 +55,11 @@ backward-labels-spec =
     tie.close
     (tie.spec
     add-prices
-    sub-index-by
-    part-index-by-start
+    (λ c. search needs)
+    (λ c. search needs)
     part-index-by-end
-    index-by-requires
+    (λ c κs. search needs)
     spots-requires
     from-labels-requires
-    same-length
+    (λ c. search needs)
     returns)

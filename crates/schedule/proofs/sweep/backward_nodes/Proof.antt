@@ -23,21 +23,12 @@ f q = backwardBy (now (q .args .lower)) (now (q .args .higher))
 loop-holds : tie.Need-loop-holds Inv-loop μ-loop
 loop-holds c = let q = c .before in (omega arith, each-start (f q) (now (q .args .out)) (q .args .at) (downward-start (q .args .n)))
 
-add-passed : tie.Need-add-passed Inv-loop μ-loop
-add-passed c = omega arith
-
-sub-u : tie.Need-sub-u Inv-loop μ-loop
-sub-u c = omega arith
-
 backward-at-requires : tie.Need-backward-at-requires Inv-loop μ-loop
 backward-at-requires c κs =
     let i = c .before in
     let q = i .before .before .before in
     let h = i .loop-test .taken in
     (q .pre .0, (q .pre .1 .0, (omega (arith, h, q .pre .1 .1 .0), each-room (f q) (i .before .loop .inv .1) (downward-more h) (q .pre .1 .1 .1))))
-
-loop-less : tie.Need-loop-less Inv-loop μ-loop
-loop-less c = omega arith
 
 loop-again : tie.Need-loop-again Inv-loop μ-loop
 loop-again c = let i = c .before .before .before .before in (omega arith, each-more (f (i .before .before .before)) (i .before .loop .inv .1) (downward-more (i .loop-test .taken)) (c .before .before .backward-at .ensures))
@@ -55,10 +46,10 @@ backward-nodes-spec =
     Inv-loop
     μ-loop
     loop-holds
-    add-passed
-    sub-u
+    (λ c. omega arith)
+    (λ c. omega arith)
     backward-at-requires
-    loop-less
+    (λ c. omega arith)
     loop-again
     same-length
     returns)

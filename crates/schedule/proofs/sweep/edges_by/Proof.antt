@@ -25,17 +25,8 @@ mul-past c = omega (arith, sizes (c .before .before .before .before .pre .0))
 add-past : tie.Need-add-past
 add-past c = omega (arith, sizes (c .before .before .before .before .pre .0), c .before .before .before .before .pre .1)
 
-sub-index-by : tie.Need-sub-index-by
-sub-index-by c = search needs
-
-part-index-by-start : tie.Need-part-index-by-start
-part-index-by-start c = search needs
-
 part-index-by-end : tie.Need-part-index-by-end
 part-index-by-end c = omega (arith, end-bytes (c .before .before .before .before .pre .0), c .before .before .before .before .pre .1)
-
-index-by-requires : tie.Need-index-by-requires
-index-by-requires c κs = search needs
 
 returns : tie.Need-returns
 returns c =
@@ -53,8 +44,8 @@ edges-by-spec =
     add-from-2
     mul-past
     add-past
-    sub-index-by
-    part-index-by-start
+    (λ c. search needs)
+    (λ c. search needs)
     part-index-by-end
-    index-by-requires
+    (λ c κs. search needs)
     returns)

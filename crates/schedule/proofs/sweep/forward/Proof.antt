@@ -42,9 +42,6 @@ module _ (x : tie.After-edges-by) where
   lists : each (forwardBy (now (start .args .sheet)) (now (start .args .lower)) (x .edges-by .result)) (range 0 (start .args .counts .nodes)) ≡ nodes start
   lists = forward-nodes (start .pre .0) (lower start) higher
 
-edges-by-requires : tie.Need-edges-by-requires
-edges-by-requires c κs = search needs
-
 forward-nodes-requires : tie.Need-forward-nodes-requires
 forward-nodes-requires c κs =
     let x = c .before .before in
@@ -59,9 +56,6 @@ put-requires c κs =
     let q = start x in
     (room-right (nodes q) rounding (writing-for (lists x) (c .before .before .before .forward-nodes .ensures)) (room q), (omega arith, omega arith, omega arith))
 
-same-length : tie.Need-same-length
-same-length c = search needs
-
 returns : tie.Need-returns
 unfolding forward rounding
 returns c =
@@ -71,4 +65,4 @@ returns c =
 
 pub forward-spec : {M : Type 1} → statement M
 forward-spec =
-    tie.close (tie.spec edges-by-requires forward-nodes-requires put-requires same-length returns)
+    tie.close (tie.spec (λ c κs. search needs) forward-nodes-requires put-requires (λ c. search needs) returns)

@@ -34,21 +34,12 @@ to-edges-requires c κs =
     let u = q .pre .1 .1 .0 .0 in
     ((u, q .pre .1 .0 .few (q .args .u) u, omega arith), room-as (length-sent (now (q .args .higher)) 1 (q .args .u)) (room-left (second q) (third q) (room-right (first q) (second q ++ third q) (c .before .before .before .from-edges .ensures) (q .pre .1 .1 .1))))
 
-shared-slice-read-wide : tie.Need-shared-slice-read-wide
-shared-slice-read-wide c = search needs
-
-wide-requires : tie.Need-wide-requires
-wide-requires c κs = search needs
-
 to-labels-requires : tie.Need-to-labels-requires
 to-labels-requires c κs =
     let q = c .before .before .before .before .before .before .before .before .before .before .before .before .before in
     let r = room-right (first q) (second q ++ third q) (c .before .before .before .before .before .before .before .before .before .from-edges .ensures) (q .pre .1 .1 .1) in
     let d = c .before .wide .ensures in
     ((omega (arith, d), omega (arith, q .pre .1 .1 .0)), room-as (length-toLabels (q .args .u) (byte (now (q .args .sheet)) (q .args .u)) ∙ sym (d .0)) (room-right (second q) (third q) (c .before .before .before .before .before .to-edges .ensures) r))
-
-same-length : tie.Need-same-length
-same-length c = search needs
 
 returns : tie.Need-returns
 returns c =
@@ -63,8 +54,8 @@ forward-at-spec =
     (tie.spec
     from-edges-requires
     to-edges-requires
-    shared-slice-read-wide
-    wide-requires
+    (λ c. search needs)
+    (λ c κs. search needs)
     to-labels-requires
-    same-length
+    (λ c. search needs)
     returns)

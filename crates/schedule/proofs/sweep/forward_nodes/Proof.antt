@@ -31,12 +31,6 @@ forward-at-requires c κs =
     let h = i .loop-test .taken in
     (q .pre .0, (q .pre .1 .0, ((omega (arith, h, q .pre .1 .1 .0), omega (arith, h, q .pre .1 .1 .0)), each-room (f q) (i .before .loop .inv .1) (onward-more h) (q .pre .1 .1 .1))))
 
-add-u : tie.Need-add-u Inv-loop μ-loop
-add-u c = omega arith
-
-loop-less : tie.Need-loop-less Inv-loop μ-loop
-loop-less c = omega arith
-
 loop-again : tie.Need-loop-again Inv-loop μ-loop
 loop-again c = let i = c .before .before .before .before in (omega arith, each-more (f (i .before .before .before .before)) (i .before .loop .inv .1) (onward-more (i .loop-test .taken)) (c .before .before .forward-at .ensures))
 
@@ -54,8 +48,8 @@ forward-nodes-spec =
     μ-loop
     loop-holds
     forward-at-requires
-    add-u
-    loop-less
+    (λ c. omega arith)
+    (λ c. omega arith)
     loop-again
     same-length
     returns)

@@ -54,9 +54,6 @@ module _ (p : tie.Else1) where
   long : (d : ℕ) → length (bytes (sweep (instanceOf s) d)) ≡ sweepLength (instanceOf s)
   long d = sweep-length (instanceOf s) (laid .sound .proper) d
 
-read-requires : tie.Need-read-requires
-read-requires c κs = search needs
-
 returns : tie.Need-returns
 returns c =
     let q = c .before .before in
@@ -109,9 +106,6 @@ forward-requires c κs =
     let x = c .before .before .before in
     (handed (p x), (lower x, fit x ∙ sym (long (p x) (direction (p x))) ∙ ap (λ l. length (bytes l)) (forward-is (instanceOf (s (p x))) (c .before .before .if4 .taken))))
 
-same-length : tie.Need-same-length
-same-length c = search needs
-
 returns-4 : tie.Need-returns-4
 returns-4 c = let x = c .before .before .before .before .before .before in filled x (c .before .before .forward .ensures ∙ ap bytes (sym (forward-is (instanceOf (s (p x))) (c .before .before .before .before .before .if4 .taken))))
 
@@ -120,9 +114,6 @@ backward-requires c κs =
     let x = c .before .before .before in
     (handed (p x), (lower x, fit x ∙ sym (long (p x) (direction (p x))) ∙ ap (λ l. length (bytes l)) (backward-is (instanceOf (s (p x))) (c .before .before .if4 .left))))
 
-same-length-2 : tie.Need-same-length-2
-same-length-2 c = search needs
-
 returns-5 : tie.Need-returns-5
 returns-5 c = let x = c .before .before .before .before .before .before in filled x (c .before .before .backward .ensures ∙ ap bytes (sym (backward-is (instanceOf (s (p x))) (c .before .before .before .before .before .if4 .left))))
 
@@ -130,7 +121,7 @@ pub write-sweep-spec : {M : Type 1} → statement M
 write-sweep-spec =
     tie.close
     (tie.spec
-    read-requires
+    (λ c κs. search needs)
     returns
     returns-2
     mul-if3
@@ -140,8 +131,8 @@ write-sweep-spec =
     returns-3
     edges-by-requires
     forward-requires
-    same-length
+    (λ c. search needs)
     returns-4
     backward-requires
-    same-length-2
+    (λ c. search needs)
     returns-5)

@@ -12,15 +12,9 @@ returns : tie.Need-returns
 unfolding directionOf
 returns c = sym (if-false _ _ (ne-eqb _ 1 (c .if1 .taken)))
 
-shared-slice-read-if2 : tie.Need-shared-slice-read-if2
-shared-slice-read-if2 c = search needs
-
 returns-2 : tie.Need-returns-2
 unfolding directionOf
 returns-2 c = sym (if-true _ _ (eq-eqb _ 1 (c .before .before .if1 .left)) ∙ if-true _ _ (eq-eqb _ 48 (c .if2 .taken)))
-
-shared-slice-read-if3 : tie.Need-shared-slice-read-if3
-shared-slice-read-if3 c = search needs
 
 returns-3 : tie.Need-returns-3
 unfolding directionOf
@@ -33,4 +27,4 @@ returns-4 c = sym (if-true _ _ (eq-eqb _ 1 (c .before .before .before .before .i
 pub direction-of-spec : {M : Type 1} → statement M
 direction-of-spec =
     tie.close
-    (tie.spec returns shared-slice-read-if2 returns-2 shared-slice-read-if3 returns-3 returns-4)
+    (tie.spec returns (λ c. search needs) returns-2 (λ c. search needs) returns-3 returns-4)

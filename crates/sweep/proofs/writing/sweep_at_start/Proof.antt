@@ -58,9 +58,6 @@ module _ (w : tie.After-write-sweep) where
   room : count known ≤ length all
   room = omega (arith, length-append list (drop (count known) (now (start known .args .out))), long)
 
-read-requires : tie.Need-read-requires
-read-requires c κs = search needs
-
 mul-count : tie.Need-mul-count
 mul-count c = omega (arith, small (c .before))
 
@@ -79,12 +76,6 @@ slice-relend-prefix-write-sweep c = fits (c .before .before)
 slice-aggregate-write-sweep : tie.Need-slice-aggregate-write-sweep
 slice-aggregate-write-sweep c = sym (part-long (c .before .before .before))
 
-write-sweep-requires : tie.Need-write-sweep-requires
-write-sweep-requires c κs = search needs
-
-same-length : tie.Need-same-length
-same-length c = search needs
-
 returns : tie.Need-returns
 returns c =
     let w = c .before .before .before in
@@ -94,9 +85,6 @@ returns c =
       text = ahead w ∙ done w .content z ∙ written-all (sheet w) (start (known w) .args .direction) (sym (done w .number) ∙ z);
       room = room w;
     }
-
-same-length-2 : tie.Need-same-length-2
-same-length-2 c = search needs
 
 returns-2 : tie.Need-returns-2
 returns-2 c =
@@ -111,15 +99,15 @@ pub sweep-at-start-spec : {M : Type 1} → statement M
 sweep-at-start-spec =
     tie.close
     (tie.spec
-    read-requires
+    (λ c κs. search needs)
     mul-count
     add-count
     add-count-2
     mul-count-2
     slice-relend-prefix-write-sweep
     slice-aggregate-write-sweep
-    write-sweep-requires
-    same-length
+    (λ c κs. search needs)
+    (λ c. search needs)
     returns
-    same-length-2
+    (λ c. search needs)
     returns-2)
