@@ -1,11 +1,11 @@
--- "Sweeps": the two lists of records, over an instance as a sheet describes it. Quotations are document 01's.
-use mathlib.Core.Bool.{Bool, cond, _||_}
+-- "Sweeps": the two lists of records, over an instance as a sheet describes it. Quotations are document 01's, and where it is said document 02's.
+use mathlib.Core.Bool.{Bool, not, cond, _||_}
 use mathlib.Core.List.{List, [], _∷_, _++_, map}
 use Prim.Native.Nat.{ℕ, zero, suc, _+_, _-_, _*_, _/_, _%_}
 use lib.Dec.{eqb}
 use lib.ListN.{length}
 use Rattle.integers.specs.Places.{range, select}
-use Rattle.instance.specs.Instance.{Instance, first, nodeCells}
+use Rattle.instance.specs.Instance.{Instance, exclusive, first, nodeCells}
 
 -- a record as the document writes it: kind, node, index, share
 pub record Entry : Type 0 where
@@ -73,15 +73,19 @@ module _ (I : Instance) where
   unfoldable pub labelled : ℕ → ℕ → List ℕ
   labelled l u = select (λ k. eqb (I .label (first I u + k)) l) (positions u)
 
+  -- those at which u has another label than 255: "sweeps hold no kind 3 or 4 record for it" (document 02, wish 1)
+  unfoldable pub exclusivePositions : ℕ → List ℕ
+  exclusivePositions u = select (λ k. exclusive (I .label (first I u + k))) (positions u)
+
   -- "for u rising, kind 2 with share 1 from each edge to a lower node; kind 1 to each edge to a higher node with shares q, q−1, .. 2, where q is
   -- their number plus 1; kind 3 with share 1 at each position. Then kind 5."
   unfoldable pub forwardAt : ℕ → List Entry
-  forwardAt u = fromEdges u (toLower u) ++ (toEdges u (length (toHigher u) + 1) (toHigher u) ++ toLabels u (positions u))
+  forwardAt u = fromEdges u (toLower u) ++ (toEdges u (length (toHigher u) + 1) (toHigher u) ++ toLabels u (exclusivePositions u))
 
   unfoldable pub forward : List Entry
   forward = each forwardAt (range 0 (I .nodeCount)) ++ rounding
 
-  -- "labels falling, each label's nodes rising, kind 4 with share 1; then u falling, kind 2 with share 1 from edges to higher nodes, kind 1 to
+  -- labels are those below L, 255 is none of them: "labels falling, each label's nodes rising, kind 4 with share 1; then u falling, kind 2 with share 1 from edges to higher nodes, kind 1 to
   -- edges to lower nodes with shares q, q−1, .. 1, where q is their number; then kind 5"
   unfoldable pub labelAt : ℕ → List Entry
   labelAt l = each (λ u. fromLabel u (labelled l u)) (range 0 (I .nodeCount))
@@ -95,9 +99,14 @@ module _ (I : Instance) where
   unfoldable pub sweep : ℕ → List Entry
   sweep direction = cond (eqb direction 0) forward backward
 
-  -- "either has 2E + N + 1 records"; "the sweep's 5 times (2E + N + 1)"
-  unfoldable pub sweepRecords : ℕ
-  sweepRecords = 2 * I .edgeCount + nodeCells I + 1
+  -- V, how many places have the label 255
+  unfoldable pub vanished : ℕ
+  vanished = length (select (λ i. not (exclusive (I .label i))) (range 0 (nodeCells I)))
 
+  -- "either has 2E + N + 1 records"; "a sweep's length shrinks by one record for each" 255 (document 02, wish 1)
+  unfoldable pub sweepRecords : ℕ
+  sweepRecords = 2 * I .edgeCount + (nodeCells I - vanished) + 1
+
+  -- "the sweep's 5 times" their number
   unfoldable pub sweepLength : ℕ
   sweepLength = 5 * sweepRecords

@@ -5,7 +5,7 @@ use Prim.Native.Nat.{ℕ}
 use lib.Dec.{eqb}
 use lib.ListN.{length}
 use Rattle.integers.specs.Checks.{firstFailure}
-use Rattle.instance.specs.Sheet.{instanceOf, checks}
+use Rattle.instance.specs.Sheet.{instanceOf, checks, refusalOf}
 use Rattle.schedule.specs.Sweep.{bytes, sweep, known, sweepLength}
 
 pub record Written : Type 0 where
@@ -14,6 +14,10 @@ pub record Written : Type 0 where
 
 abbrev pub written : List ℕ → ℕ → Written
 written content refusal = record { content = content; refusal = refusal }
+
+-- how many bytes to lend for a sweep: none for a sheet that is refused
+unfoldable pub sweepRoom : List ℕ → ℕ
+sweepRoom s = cond (eqb (refusalOf s) 0) (sweepLength (instanceOf s)) 0
 
 module _ (s : List ℕ) (direction : ℕ) where
   -- "1 to 7 as listed for the sheet; direction (12) for a sweep; 8"
