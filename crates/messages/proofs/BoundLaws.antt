@@ -98,11 +98,11 @@ module _ {s : List ℕ} {v : View} (w : Viewed s v) {nodes labels edges : List �
 pub leasts-within : (J : Instance) (labels : List ℤ) → Within costLimit labels → (i : ℕ) → Within costLimit (leastLabels J labels i)
 unfolding leastLabels
 leasts-within J labels f i l =
-    by-test (ltb l 64)
-    (λ t. rw (getD-tabulate 64 (labelBelow J labels i) l (pos 0) (ltb-true l 64 t)) (places-within (select (λ j. eqb (J .label j) l) (range 0 i))))
-    (λ t. let n = length-tabulate 64 (labelBelow J labels i) in
-    let past : length (tabulate 64 (labelBelow J labels i)) ≤ l = omega (arith, ltb-false l 64 t) in
-    rw (List·getD-eq-default (tabulate 64 (labelBelow J labels i)) (pos 0) past) (omega arith))
+    by-test (ltb l 256)
+    (λ t. rw (getD-tabulate 256 (labelBelow J labels i) l (pos 0) (ltb-true l 256 t)) (places-within (select (λ j. eqb (J .label j) l) (range 0 i))))
+    (λ t. let n = length-tabulate 256 (labelBelow J labels i) in
+    let past : length (tabulate 256 (labelBelow J labels i)) ≤ l = omega (arith, ltb-false l 256 t) in
+    rw (List·getD-eq-default (tabulate 256 (labelBelow J labels i)) (pos 0) past) (omega arith))
   where
     places-within : (k : List ℕ) → natAbs (leastFrom (pos 0) (map (λ j. getD labels j (pos 0)) k)) ≤ costLimit
     places-within k = least-ind (λ z. natAbs z ≤ costLimit) (pos 0) (map (λ j. getD labels j (pos 0)) k) (pos 0) (omega arith) (λ i h. within-map costLimit (λ j. getD labels j (pos 0)) k f i)

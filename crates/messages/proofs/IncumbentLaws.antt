@@ -1,7 +1,7 @@
 -- The incumbent's laws over plain values: bytes that mean none, labels that are taken, sums of prices, what replaces what, and bytes copied in turn.
 -- Assumes nothing.
 use mathlib.Core.Path.{_≡_, refl, sym, ap, ap₂, _∙_}
-use mathlib.Core.Bool.{Bool, true, false, cond, _&&_, _||_}
+use mathlib.Core.Bool.{Bool, true, false, not, cond, _&&_, _||_}
 use mathlib.Core.List.{List, [], _∷_, _++_}
 use Prim.Native.Nat.{ℕ, suc, _+_, _*_, _≤_, _<_}
 use native.Mathlib.Numerals.{add-one}
@@ -16,13 +16,14 @@ use Rattle.integers.specs.Places.{every, tabulate, total}
 use Rattle.integers.specs.Checks.{below}
 use Rattle.integers.proofs.Parts.{linear, add}
 use Rattle.integers.proofs.Places.{if-true, if-false, length-tabulate, getD-tabulate}
-use Rattle.integers.proofs.Totals.{total-zero}
+use Rattle.integers.proofs.Totals.{total-zero, total-ext}
 use Rattle.integers.proofs.Checks.{Tested, tested-none, tested-more, tested-all, below-fails}
-use Rattle.instance.specs.Instance.{Instance, nodeCells, cell}
+use Rattle.instance.specs.Instance.{Instance, exclusive, nodeCells, cell}
 use Rattle.instance.specs.Sheet.{instanceOf, refusalOf}
 use Rattle.instance.proofs.LaidOut.{row-inside}
-use Rattle.rules.specs.Costs.{Buffers, noneKept, position, chosen, chosenCell, costOf, priceOf, Labelling}
+use Rattle.rules.specs.Costs.{Buffers, noneKept, prices, position, chosen, chosenCell, paid, costOf, priceOf, Labelling}
 use Rattle.rules.specs.Rounding.{free, adopt}
+use Rattle.rules.proofs.Balance.{only-zero}
 use Rattle.rules.specs.Calls.{isMatching, incumbentOk}
 use Rattle.rules.proofs.Calls.{is-matching}
 use Rattle.messages.specs.Seen.{startsOf, tablesOf}
@@ -57,7 +58,7 @@ pub cell-is : (s : List ℕ) (r : refusalOf s ≡ 0) {tables : List ℕ} → tab
 unfolding chosenCell cell
 cell-is s r b x h p q z = rw (z, p, q, table-is s b r h)
 
--- ---- a position for each node, whose label no lower node takes
+-- ---- a position for each node, whose label is 255 or no lower node's
 
 module _ (J : Instance) (x : List ℕ) where
   -- whether u passes
@@ -67,32 +68,32 @@ module _ (J : Instance) (x : List ℕ) where
   -- after u nodes
   pub record MatchTurn (n : ℕ) (untaken : List Bool) (u : ℕ) : Type 0 where
     pub tested : Tested okAt n u
-    pub labels : untaken ≡ tabulate 64 (unused J x u)
+    pub labels : untaken ≡ tabulate 256 (unused J x u)
 
-  pub match-none : (n : ℕ) → MatchTurn n (replicate 64 true) 0
+  pub match-none : (n : ℕ) → MatchTurn n (replicate 256 true) 0
   match-none n = record { tested = tested-none okAt n; labels = untaken-none J x }
 
-  pub untaken-long : {n : ℕ} {untaken : List Bool} {u : ℕ} → MatchTurn n untaken u → length untaken ≡ 64
-  untaken-long {u = u} t = ap length (t .labels) ∙ length-tabulate 64 (unused J x u)
+  pub untaken-long : {n : ℕ} {untaken : List Bool} {u : ℕ} → MatchTurn n untaken u → length untaken ≡ 256
+  untaken-long {u = u} t = ap length (t .labels) ∙ length-tabulate 256 (unused J x u)
 
   pub match-over : (u : ℕ) → J .degree u ≤ position x u → okAt u ≡ false
   match-over u h = rw (le-ltb (position x u) (J .degree u) h)
 
-  module _ {n : ℕ} {untaken : List Bool} {u : ℕ} (t : MatchTurn n untaken u) {l : ℕ} (e : l ≡ J .label (chosen J x u)) (small : l < 64) (g : position x u < J .degree u) where
+  module _ {n : ℕ} {untaken : List Bool} {u : ℕ} (t : MatchTurn n untaken u) {l : ℕ} (e : l ≡ J .label (chosen J x u)) (small : l < 256) (g : position x u < J .degree u) where
     -- whether the label of u is untaken
     read : okAt u ≡ getD untaken l false
     unfolding chosen
     read =
         rw (lt-ltb (position x u) (J .degree u) g)
-        (free-is J x u (position x u) ∙ sym (ap (λ (m : List Bool). getD m l false) (t .labels) ∙ getD-tabulate 64 (unused J x u) l false small ∙ ap (unused J x u) e))
+        (free-is J x u (position x u) ∙ sym (ap (λ (m : List Bool). getD m l false) (t .labels) ∙ getD-tabulate 256 (unused J x u) l false small ∙ ap (unused J x u) e))
 
     pub match-taken : getD untaken l false ≡ false → okAt u ≡ false
     match-taken q = read ∙ q
 
-    pub match-more : u < n → getD untaken l false ≡ true → MatchTurn n (set untaken l false) (u + 1)
-    match-more h q = record {
+    pub match-more : u < n → getD untaken l false ≡ true → {once : Bool} → once ≡ exclusive l → MatchTurn n (set untaken l (not once)) (u + 1)
+    match-more h q o = record {
       tested = tested-more (t .tested) h (read ∙ q);
-      labels = ap (λ (b : List Bool). set b l false) (t .labels) ∙ untaken-more J x x u (λ w _. refl) l e;
+      labels = ap₂ (λ (b : List Bool) (v : Bool). set b l (not v)) (t .labels) o ∙ untaken-more J x x u (λ w _. refl) l e;
     }
 
   module _ {n : ℕ} (q : n ≡ J .nodeCount) where
@@ -144,7 +145,8 @@ module _ (J : Instance) where
   unfolding costOf
   price-parts x {a} {b} p q =
       let m = total (J .nodeCount) (λ u. J .nodePrice (chosen J x u)) in
-      let z : m +ℤ total (J .nodeCount) (λ u. pos 0) ≡ m = rw (total-zero (J .nodeCount)) (omega (linear, add m (pos 0))) in
+      let none = total-ext (J .nodeCount) (λ u. paid J (prices J) (chosen J x u)) (λ u. pos 0) (λ u _. only-zero (exclusive (J .label (chosen J x u)))) ∙ total-zero (J .nodeCount) in
+      let z : m +ℤ total (J .nodeCount) (λ u. paid J (prices J) (chosen J x u)) ≡ m = rw none (omega (linear, add m (pos 0))) in
       ap₂ _+ℤ_ (p ∙ sym z) q
 
 -- ---- bytes copied in turn

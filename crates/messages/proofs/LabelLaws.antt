@@ -1,4 +1,4 @@
--- A table of 64 places, one a label: one place set, and each label's least as the places are gone through.
+-- A table of 256 places, one a label: one place set, and each label's least as the places are gone through.
 -- Assumes nothing.
 use mathlib.Core.Path.{_≡_, refl, sym, ap, _∙_}
 use mathlib.Core.Bool.{Bool, cond}
@@ -40,13 +40,13 @@ tabulate-set n f i v d h =
     (λ t. getD-set-other (tabulate n f) i k v d (eqb-false k i t) ∙ getD-tabulate n f k d (omega arith) ∙ sym (getD-tabulate n g k d (omega arith) ∙ rw t)))
 
 module _ (I : Instance) (labels : List ℤ) where
-  pub leasts-none : replicate 64 (pos 0) ≡ leastLabels I labels 0
+  pub leasts-none : replicate 256 (pos 0) ≡ leastLabels I labels 0
   unfolding leastLabels range select leastFrom
-  leasts-none = sym (tabulate-same 64 (pos 0))
+  leasts-none = sym (tabulate-same 256 (pos 0))
 
-  pub leasts-at : (i l : ℕ) → l < 64 → getD (leastLabels I labels i) l (pos 0) ≡ labelBelow I labels i l
+  pub leasts-at : (i l : ℕ) → l < 256 → getD (leastLabels I labels i) l (pos 0) ≡ labelBelow I labels i l
   unfolding leastLabels
-  leasts-at i l h = getD-tabulate 64 (labelBelow I labels i) l (pos 0) h
+  leasts-at i l h = getD-tabulate 256 (labelBelow I labels i) l (pos 0) h
 
   -- one place more: the label there takes its cost in, the others are as they were
   below-more : (i l : ℕ) → labelBelow I labels (i + 1) l ≡ cond (eqb l (I .label i)) (minℤ (getD labels i (pos 0)) (labelBelow I labels i l)) (labelBelow I labels i l)
@@ -64,12 +64,12 @@ module _ (I : Instance) (labels : List ℤ) where
       rw (q, eq-eqb l (I .label i) (sym e)) (least-min (f i) (pos 0) (map f (select t (range 0 i)))))
       (λ q. rw (q, ne-eqb l (I .label i) (λ e. eqb-false (I .label i) l q (sym e))))
 
-  pub leasts-more : (i l : ℕ) → l ≡ I .label i → l < 64 → (x : ℤ) → x ≡ minℤ (getD labels i (pos 0)) (getD (leastLabels I labels i) l (pos 0)) → set (leastLabels I labels i) l x ≡ leastLabels I labels (i + 1)
+  pub leasts-more : (i l : ℕ) → l ≡ I .label i → l < 256 → (x : ℤ) → x ≡ minℤ (getD labels i (pos 0)) (getD (leastLabels I labels i) l (pos 0)) → set (leastLabels I labels i) l x ≡ leastLabels I labels (i + 1)
   unfolding leastLabels
   leasts-more i l e h x q =
       let y : x ≡ minℤ (getD labels i (pos 0)) (labelBelow I labels i l) = q ∙ ap (minℤ (getD labels i (pos 0))) (leasts-at i l h) in
-      tabulate-set 64 (labelBelow I labels i) l x (pos 0) h
-      ∙ tabulate-ext 64 (λ k. cond (eqb k l) x (labelBelow I labels i k)) (labelBelow I labels (i + 1))
+      tabulate-set 256 (labelBelow I labels i) l x (pos 0) h
+      ∙ tabulate-ext 256 (λ k. cond (eqb k l) x (labelBelow I labels i k)) (labelBelow I labels (i + 1))
       (λ k _. by-test (eqb k l)
       (λ t. let d : k ≡ l = eqb-true k l t in
       if-true x (labelBelow I labels i k) t ∙ y ∙ ap (λ (z : ℕ). minℤ (getD labels i (pos 0)) (labelBelow I labels i z)) (sym d)
@@ -80,7 +80,7 @@ module _ (I : Instance) (labels : List ℤ) where
       (pos 0)
 
   -- the same of a table that is known to be that
-  pub leasts-turn : {least : List ℤ} {i l : ℕ} → least ≡ leastLabels I labels i → l ≡ I .label i → l < 64 → {x : ℤ} → x ≡ minℤ (getD labels i (pos 0)) (getD least l (pos 0)) → set least l x ≡ leastLabels I labels (i + 1)
+  pub leasts-turn : {least : List ℤ} {i l : ℕ} → least ≡ leastLabels I labels i → l ≡ I .label i → l < 256 → {x : ℤ} → x ≡ minℤ (getD labels i (pos 0)) (getD least l (pos 0)) → set least l x ≡ leastLabels I labels (i + 1)
   leasts-turn {least} {i} {l} q e h {x} v =
       ap (λ (m : List ℤ). set m l x) q
       ∙ leasts-more i l e h x (v ∙ ap (λ (m : List ℤ). minℤ (getD labels i (pos 0)) (getD m l (pos 0))) q)

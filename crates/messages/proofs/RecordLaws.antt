@@ -5,10 +5,10 @@ use mathlib.Core.Bool.{Bool, true, false}
 use mathlib.Core.List.{List}
 use Prim.Native.Nat.{ℕ, _+_, _≤_, _<_}
 use borrow.Author.Tests.{eq-eqb, ne-eqb, lt-ltb, le-ltb, le-leb, lt-leb}
-use lib.Dec.{leb, ltb, eqb}
+use lib.Dec.{leb, eqb}
 use lib.IntN.{ℤ}
 use Rattle.integers.proofs.Places.{if-true, if-false}
-use Rattle.instance.specs.Instance.{Instance, first}
+use Rattle.instance.specs.Instance.{Instance, exclusive, first}
 use Rattle.instance.specs.Sheet.{instanceOf, refusalOf}
 use Rattle.rules.specs.Run.{legalShare, legalEdge, legalPosition}
 use Rattle.rules.proofs.Run.{legal-edge-is, legal-position-is}
@@ -67,9 +67,14 @@ module _ (I : Instance) (u k r : ℕ) where
     unfolding legalPosition
     position-no-node g = rw (h, le-ltb u (I .nodeCount) g)
 
-    pub position-some : u < I .nodeCount → ltb k (I .degree u) ≡ legalPosition I u k r
-    unfolding legalPosition
-    position-some g = rw (h, lt-ltb u (I .nodeCount) g)
+    module _ (g : u < I .nodeCount) where
+      pub position-none : I .degree u ≤ k → false ≡ legalPosition I u k r
+      unfolding legalPosition
+      position-none m = rw (h, lt-ltb u (I .nodeCount) g, le-ltb k (I .degree u) m)
+
+      pub position-some : k < I .degree u → exclusive (I .label (first I u + k)) ≡ legalPosition I u k r
+      unfolding legalPosition
+      position-some m = rw (h, lt-ltb u (I .nodeCount) g, lt-ltb k (I .degree u) m)
 
 -- ---- taken, or refused
 
@@ -99,5 +104,5 @@ edge-legal {s} w f g u e r h =
 
 pub place-asked : (s : List ℕ) → refusalOf s ≡ 0 → (at u k r : ℕ) → at ≡ first (instanceOf s) u → legalPosition (instanceOf s) u k r ≡ true → PlaceAsked s at u k r
 place-asked s w at u k r e h =
-    let (a, b, c) = legal-position-is (instanceOf s) u k r h in
-    record { readable = w; node = b; begins = e; position = c; some = a }
+    let (a, b, c, d) = legal-position-is (instanceOf s) u k r h in
+    record { readable = w; node = b; begins = e; position = c; exclusive = d; some = a }

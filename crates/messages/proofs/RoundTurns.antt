@@ -1,7 +1,7 @@
 -- Rounding node by node: what is known after u nodes, what the code's choice is, and a turn. Rounding looks at no label cost.
 -- Assumes nothing.
 use mathlib.Core.Path.{_≡_, refl, sym, ap, ap₂, _∙_}
-use mathlib.Core.Bool.{Bool, true, false, cond}
+use mathlib.Core.Bool.{Bool, true, false, not, cond}
 use mathlib.Core.List.{List, [], _∷_, _++_}
 use mathlib.Core.List.{List·Memᴰ as Mem, List·Memᴰ·head as here, List·Memᴰ·tail as there}
 use mathlib.Core.Option.{Option, none, some, bind}
@@ -17,9 +17,10 @@ use lib.Signed.{ltZ}
 use Rattle.integers.specs.Places.{range, select, tabulate, only}
 use Rattle.integers.proofs.Places.{by-test, if-true, if-false, range-mem, select-mem, length-tabulate, getD-tabulate}
 use Rattle.integers.proofs.Totals.{total-ext}
-use Rattle.instance.specs.Instance.{Instance, first, cell}
+use Rattle.instance.specs.Instance.{Instance, exclusive, first, cell}
 use Rattle.instance.specs.Sheet.{instanceOf}
 use Rattle.instance.specs.Readable.{Proper}
+use Rattle.instance.proofs.LaidOut.{row-inside, label-small}
 use Rattle.rules.specs.Costs.{Costs, Buffers, costsOf, position, chosen}
 use Rattle.rules.specs.Rounding.{bestFrom, best, free, key, choice, roundBelow, round}
 use Rattle.rules.proofs.Loops.{round-next, round-stops, round-stuck}
@@ -101,9 +102,9 @@ pub record RoundTurn (s : List ℕ) (n : ℕ) (nodes edges : List ℤ) (x : List
   pub done : roundBelow (instanceOf s) (costsBy nodes edges) u ≡ some (take u x)
   pub placed : Placed s x u
   pub rest : (k : ℕ) → u ≤ k → getD x k 0 ≡ 0
-  pub labels : untaken ≡ tabulate 64 (unused (instanceOf s) x u)
+  pub labels : untaken ≡ tabulate 256 (unused (instanceOf s) x u)
 
-pub round-start : (s : List ℕ) (n : ℕ) (nodes edges : List ℤ) → RoundTurn s n nodes edges (replicate 64 0) (replicate 64 true) 0
+pub round-start : (s : List ℕ) (n : ℕ) (nodes edges : List ℤ) → RoundTurn s n nodes edges (replicate 64 0) (replicate 256 true) 0
 unfolding roundBelow
 round-start s n nodes edges = record {
   within = omega arith;
@@ -151,8 +152,8 @@ module _ {s : List ℕ} {v : View} (w : Viewed s v) (nodes edges : List ℤ) whe
       unfolding choice
       choice-inside b e = best-inside (key I c (take u x) u) (free I (take u x) u) (I .degree u) e .0
 
-      label-few : (k : ℕ) → k < I .degree u → I .label (first I u + k) < 64
-      label-few k h = omega (arith, good .known u k node h, good .labelsFew)
+      label-few : (k : ℕ) → k < I .degree u → I .label (first I u + k) < 256
+      label-few k h = label-small good (first I u + k) (omega (arith, row-inside I node))
 
       -- what the code chooses
       pub choice-read : {at d : ℕ} {keys : List ℤ} → at ≡ first I u → keys ≡ keysAt I c x u → d ≡ I .degree u → chosenFrom I at keys untaken d ≡ orNone (choice I c (take u x) u)
@@ -162,7 +163,7 @@ module _ {s : List ℕ} {v : View} (w : Viewed s v) (nodes edges : List ℤ) whe
           (λ k h. ap (λ (l : List ℤ). getD l k (pos 0)) ek ∙ getD-tabulate 16 (λ k. only (ltb k (I .degree u)) (key I c x u k)) k (pos 0) (omega (arith, good .few u node))
           ∙ if-true (key I c x u k) (pos 0) (lt-ltb k (I .degree u) h) ∙ sym (key-agree I good c (take u x) x u agree k))
           (λ k h. ap (λ (l : List Bool). getD l (I .label (first I u + k)) false) (t .labels)
-          ∙ getD-tabulate 64 (unused I x u) (I .label (first I u + k)) false (label-few k h)
+          ∙ getD-tabulate 256 (unused I x u) (I .label (first I u + k)) false (label-few k h)
           ∙ sym (free-is I (take u x) u k ∙ unused-agree I (take u x) x u agree (I .label (first I u + k))))))
 
       -- a choice k, and what comes of it
@@ -186,8 +187,8 @@ module _ {s : List ℕ} {v : View} (w : Viewed s v) (nodes edges : List ℤ) whe
           unfolding chosen
           chosen-now = ap (λ (z : ℕ). I .label (first I u + z)) (sym placed-now)
 
-          pub round-turn : {l : ℕ} → l ≡ I .label (first I u + k) → RoundTurn s (v .nodes) nodes edges (set x u k) (set untaken l false) (u + 1)
-          round-turn {l} el = record {
+          pub round-turn : {l : ℕ} {once : Bool} → l ≡ I .label (first I u + k) → once ≡ exclusive l → RoundTurn s (v .nodes) nodes edges (set x u k) (set untaken l (not once)) (u + 1)
+          round-turn {l} el eo = record {
             within = omega arith;
             size = length-set x u k ∙ t .size;
             done = rw (add-one u) (round-next I c u (t .done) taken ∙ ap some (sym (take-suc-set x u k (omega (arith, t .size, node-few)))));
@@ -195,5 +196,5 @@ module _ {s : List ℕ} {v : View} (w : Viewed s v) (nodes edges : List ℤ) whe
                 (λ z. let y : w ≡ u = eqb-true w u z in rw (y, placed-now) position-inside)
                 (λ z. let y : w ≡ u → ⊥ = eqb-false w u z in rw (getD-set-other x u w k 0 y) (t .placed w (omega arith)));
             rest = λ j h. getD-set-other x u j k 0 (λ z. omega arith) ∙ t .rest j (omega arith);
-            labels = ap (λ (b : List Bool). set b l false) (t .labels) ∙ untaken-more I x (set x u k) u (λ w h. getD-set-other x u w k 0 (λ z. omega arith)) l (el ∙ chosen-now);
+            labels = ap₂ (λ (b : List Bool) (v : Bool). set b l (not v)) (t .labels) eo ∙ untaken-more I x (set x u k) u (λ w h. getD-set-other x u w k 0 (λ z. omega arith)) l (el ∙ chosen-now);
           }

@@ -11,7 +11,6 @@ use Rattle.instance.specs.Instance.{Instance, first, nodeCells, table, edgeCell
 use Rattle.instance.specs.Sheet.{instanceOf, nodePricesAt, edgePricesAt, refusalOf}
 use Rattle.instance.specs.Readable.{Proper, Readable}
 use Rattle.instance.proofs.Readable.{readable}
-use Rattle.instance.proofs.LaidOut.{label-known}
 use Rattle.messages.specs.declared.view.View.{View}
 use Rattle.messages.specs.Seen.{startsOf, tablesOf, Viewed}
 
@@ -24,9 +23,6 @@ module _ (s : List ℕ) (readable-is : refusalOf s ≡ 0) where
 
   pub degree-small : {u : ℕ} → u < instanceOf s .nodeCount → instanceOf s .degree u ≤ 16
   degree-small {u} h = proper .few u h
-
-  pub label-small : {i : ℕ} → i < nodeCells (instanceOf s) → instanceOf s .label i < 64
-  label-small {i} h = omega (arith, label-known proper i h, proper .labelsFew)
 
   -- the bytes of the nodes and the prices lie in the sheet
   pub node-byte : {u : ℕ} → u < instanceOf s .nodeCount → u < length s

@@ -132,7 +132,7 @@ module _ {s : List ℕ} {limit : ℕ} {b : Buffers} (g : Good s limit b) where
   edge-turn (suc (suc (suc n))) u e r h k = absurd (omega arith)
 
   place-in : (u k r : ℕ) → legalPosition I u k r ≡ true → first I u + k < nodeCells I
-  place-in u k r t = let (x, y, z) = legal-position-is I u k r t in omega (arith, row-inside I y)
+  place-in u k r t = let (x, y, z, e) = legal-position-is I u k r t in omega (arith, row-inside I y)
 
   label-kind : (turned : Bool) (u k r : ℕ)
       → settled b (cond (legalPosition I u k r) (checked I limit (shift (deltas I (costsOf b) (cond turned labelToNode nodeToLabel) u k r) b)) (refused 12)) ≡ labelSettled (labelTaken I limit (b .nodes) (b .labels) turned u k r)

@@ -1,7 +1,7 @@
--- The labels that none of the first nodes takes, as a test and as a table of 64 places.
+-- The labels that may be taken after the first nodes, as a test and as a table of 256 places: 255, and those that none of them takes.
 -- Assumes nothing.
 use mathlib.Core.Path.{_≡_, refl, sym, ap, _∙_}
-use mathlib.Core.Bool.{Bool, true, false, not, _&&_, and-true, and-false, and-assoc}
+use mathlib.Core.Bool.{Bool, true, false, not, _&&_, _||_, and-true, and-false, and-assoc, or-true, or-false}
 use mathlib.Core.List.{List, [], _∷_, _++_}
 use Prim.Native.Nat.{ℕ, zero, suc, _+_, _<_}
 use native.Mathlib.Numerals.{add-one}
@@ -15,7 +15,7 @@ use Rattle.integers.specs.Checks.{below}
 use Rattle.integers.proofs.Places.{by-test, length-tabulate, getD-tabulate}
 use Rattle.integers.proofs.Ranges.{range-last}
 use Rattle.integers.proofs.Checks.{below-ext}
-use Rattle.instance.specs.Instance.{Instance, first}
+use Rattle.instance.specs.Instance.{Instance, exclusive, first}
 use Rattle.rules.specs.Costs.{position, chosen}
 use Rattle.rules.specs.Rounding.{free}
 
@@ -39,53 +39,58 @@ abbrev pub Agree : List ℕ → List ℕ → ℕ → Type 0
 Agree x y u = (w : ℕ) → w < u → position x w ≡ position y w
 
 module _ (I : Instance) where
-  -- whether none of the nodes below u takes the label l
+  -- whether the label l may be taken after the nodes below u: it is 255, or none of them takes it
   abbrev pub unused : List ℕ → ℕ → ℕ → Bool
-  unused x u l = below u (λ w. not (eqb (I .label (chosen I x w)) l))
+  unused x u l = not (exclusive l) || below u (λ w. not (eqb (I .label (chosen I x w)) l))
 
   pub unused-agree : (x y : List ℕ) (u : ℕ) → Agree x y u → (l : ℕ) → unused x u l ≡ unused y u l
   unfolding chosen
   unused-agree x y u a l =
-      below-ext u (λ w. not (eqb (I .label (first I w + position x w)) l)) (λ w. not (eqb (I .label (first I w + position y w)) l))
-      (λ w h. ap (λ (k : ℕ). not (eqb (I .label (first I w + k)) l)) (a w h))
+      ap (λ (b : Bool). not (exclusive l) || b)
+      (below-ext u (λ w. not (eqb (I .label (first I w + position x w)) l)) (λ w. not (eqb (I .label (first I w + position y w)) l))
+      (λ w h. ap (λ (k : ℕ). not (eqb (I .label (first I w + k)) l)) (a w h)))
 
   pub free-is : (x : List ℕ) (u k : ℕ) → free I x u k ≡ unused x u (I .label (first I u + k))
   unfolding free
-  free-is x u k = every-first (λ w. not (eqb (I .label (chosen I x w)) (I .label (first I u + k)))) u
+  free-is x u k = let l = I .label (first I u + k) in ap (λ (b : Bool). not (exclusive l) || b) (every-first (λ w. not (eqb (I .label (chosen I x w)) l)) u)
 
   -- one node more takes its label
-  unused-taken : (x : List ℕ) (u l : ℕ) → I .label (chosen I x u) ≡ l → unused x (u + 1) l ≡ false
+  unused-taken : (x : List ℕ) (u l : ℕ) → I .label (chosen I x u) ≡ l → unused x (u + 1) l ≡ not (exclusive l)
   unfolding below
-  unused-taken x u l e = rw (add-one u, eq-eqb (I .label (chosen I x u)) l e) (and-false (unused x u l))
+  unused-taken x u l e =
+      ap (λ (b : Bool). not (exclusive l) || b) (rw (add-one u, eq-eqb (I .label (chosen I x u)) l e) (and-false (below u (λ w. not (eqb (I .label (chosen I x w)) l)))))
+      ∙ or-false (not (exclusive l))
 
   unused-kept : (x : List ℕ) (u l : ℕ) → (I .label (chosen I x u) ≡ l → ⊥) → unused x (u + 1) l ≡ unused x u l
   unfolding below
-  unused-kept x u l d = rw (add-one u, ne-eqb (I .label (chosen I x u)) l d) (and-true (unused x u l))
+  unused-kept x u l d =
+      ap (λ (b : Bool). not (exclusive l) || b) (rw (add-one u, ne-eqb (I .label (chosen I x u)) l d) (and-true (below u (λ w. not (eqb (I .label (chosen I x w)) l)))))
 
   -- ---- as a table
 
-  pub untaken-none : (x : List ℕ) → replicate 64 true ≡ tabulate 64 (unused x 0)
+  pub untaken-none : (x : List ℕ) → replicate 256 true ≡ tabulate 256 (unused x 0)
   unfolding below
   untaken-none x =
-      let a = length-replicate {A = Bool} 64 true in
-      let b = length-tabulate 64 (unused x 0) in
-      ext-getD true (replicate 64 true) (tabulate 64 (unused x 0)) (omega arith)
-      (λ k l. let h : k < 64 = omega arith in getD-replicate 64 k true true h ∙ sym (getD-tabulate 64 (unused x 0) k true h))
+      let a = length-replicate {A = Bool} 256 true in
+      let b = length-tabulate 256 (unused x 0) in
+      ext-getD true (replicate 256 true) (tabulate 256 (unused x 0)) (omega arith)
+      (λ k l. let h : k < 256 = omega arith in getD-replicate 256 k true true h ∙ sym (getD-tabulate 256 (unused x 0) k true h ∙ or-true (not (exclusive k))))
 
   -- y has one node more than x
-  pub untaken-more : (x y : List ℕ) (u : ℕ) → Agree y x u → (l : ℕ) → l ≡ I .label (chosen I y u) → set (tabulate 64 (unused x u)) l false ≡ tabulate 64 (unused y (u + 1))
+  pub untaken-more : (x y : List ℕ) (u : ℕ) → Agree y x u → (l : ℕ) → l ≡ I .label (chosen I y u) → set (tabulate 256 (unused x u)) l (not (exclusive l)) ≡ tabulate 256 (unused y (u + 1))
   untaken-more x y u same l el =
-      let old = tabulate 64 (unused x u) in
+      let old = tabulate 256 (unused x u) in
       let new = unused y (u + 1) in
-      let a = length-tabulate 64 (unused x u) in
-      let b = length-tabulate 64 new in
-      let g = length-set old l false in
-      ext-getD false (set old l false) (tabulate 64 new) (omega arith)
-      (λ i h. let h′ : i < 64 = omega arith in
+      let v = not (exclusive l) in
+      let a = length-tabulate 256 (unused x u) in
+      let b = length-tabulate 256 new in
+      let g = length-set old l v in
+      ext-getD false (set old l v) (tabulate 256 new) (omega arith)
+      (λ i h. let h′ : i < 256 = omega arith in
       by-test (eqb i l)
       (λ z. let q : i ≡ l = eqb-true i l z in
-      ap (λ (j : ℕ). getD (set old l false) j false) q ∙ getD-set-same old l false false (omega arith)
-      ∙ sym (getD-tabulate 64 new i false h′ ∙ unused-taken y u i (sym el ∙ sym q)))
+      ap (λ (j : ℕ). getD (set old l v) j false) q ∙ getD-set-same old l v false (omega arith) ∙ ap (λ (j : ℕ). not (exclusive j)) (sym q)
+      ∙ sym (getD-tabulate 256 new i false h′ ∙ unused-taken y u i (sym el ∙ sym q)))
       (λ z. let q : i ≡ l → ⊥ = eqb-false i l z in
-      getD-set-other old l i false false q ∙ getD-tabulate 64 (unused x u) i false h′
-      ∙ sym (getD-tabulate 64 new i false h′ ∙ unused-kept y u i (λ w. q (sym w ∙ sym el)) ∙ unused-agree y x u same i)))
+      getD-set-other old l i v false q ∙ getD-tabulate 256 (unused x u) i false h′
+      ∙ sym (getD-tabulate 256 new i false h′ ∙ unused-kept y u i (λ w. q (sym w ∙ sym el)) ∙ unused-agree y x u same i)))

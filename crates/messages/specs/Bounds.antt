@@ -26,4 +26,4 @@ abbrev pub labelBelow : Instance → List ℤ → ℕ → ℕ → ℤ
 labelBelow I labels i l = leastFrom (pos 0) (map (λ j. getD labels j (pos 0)) (select (λ j. eqb (I .label j) l) (range 0 i)))
 
 unfoldable pub leastLabels : Instance → List ℤ → ℕ → List ℤ
-leastLabels I labels i = tabulate 64 (labelBelow I labels i)
+leastLabels I labels i = tabulate 256 (labelBelow I labels i)

@@ -1,6 +1,6 @@
 -- Kinds 3 and 4: one amount between the node cost and the label cost of one place.
 use mathlib.Core.Path.{_≡_}
-use mathlib.Core.Bool.{Bool, cond, _&&_}
+use mathlib.Core.Bool.{Bool, true, cond, _&&_}
 use mathlib.Core.List.{List, _∷_, map}
 use Prim.Native.Nat.{ℕ, _+_, _≤_, _<_}
 use lib.ListN.{getD}
@@ -10,7 +10,7 @@ use Rattle.integers.specs.Share.{amount}
 use Rattle.integers.specs.Rows.{addAt}
 use Rattle.integers.specs.Places.{others}
 use Rattle.integers.specs.Checks.{within}
-use Rattle.instance.specs.Instance.{Instance, first, nodeCells}
+use Rattle.instance.specs.Instance.{Instance, exclusive, first, nodeCells}
 use Rattle.instance.specs.Sheet.{instanceOf, refusalOf}
 use Rattle.rules.specs.Places.{nodePlaces, labelPlaces}
 use Rattle.index.specs.Index.{Indexed}
@@ -50,10 +50,11 @@ labelAmount I labels i r = amount (getD labels i (pos 0)) (pos 0 ∷ map (λ j. 
 abbrev pub labelGiven : Instance → List ℤ → List ℤ → Bool → ℕ → ℕ → ℕ → ℤ
 labelGiven I nodes labels turned u i r = cond turned (negℤ (labelAmount I labels i r)) (nodeAmount I nodes u i r)
 
--- a readable sheet, node u whose places begin at `at`, one of its positions, and a share
+-- a readable sheet, node u whose places begin at `at`, one of its positions, whose label is not 255, and a share
 pub record PlaceAsked (s : List ℕ) (at u k share : ℕ) : Type 0 where
   pub readable : refusalOf s ≡ 0
   pub node : u < instanceOf s .nodeCount
   pub begins : at ≡ first (instanceOf s) u
   pub position : k < instanceOf s .degree u
+  pub exclusive : exclusive (instanceOf s .label (first (instanceOf s) u + k)) ≡ true
   pub some : 1 ≤ share

@@ -52,13 +52,13 @@ fn least_sum(sheet: &[u8], view: View, of_edges: bool, count: usize, costs: &[i6
     sum
 }
 
-// For each label the least of 0 and its label costs.
-fn label_leasts(sheet: &[u8], view: View, labels: &[i64]) -> [i64; 64]
+// For each label the least of 0 and its label costs; for 255 too, which no sum takes in.
+fn label_leasts(sheet: &[u8], view: View, labels: &[i64]) -> [i64; 256]
     requires { ⌜ Viewed (now sheet) view ⌝ }
     requires { ⌜ NodeFits (now sheet) (now labels) ⌝ }
     ensures { λ r. ⌜ r ≡ leastLabels (instanceOf (now (sheet .entry))) (now (labels .entry)) (nodeCells (instanceOf (now (sheet .entry)))) ⌝ }
 {
-    let mut least = [0i64; 64];
+    let mut least = [0i64; 256];
     let mut i = 0;
     while i < labels.len() {
         let l = label_at(sheet, view, i);
@@ -69,7 +69,7 @@ fn label_leasts(sheet: &[u8], view: View, labels: &[i64]) -> [i64; 64]
 }
 
 // The sum of the first `count`.
-fn label_sum(least: &[i64; 64], count: usize) -> i64
+fn label_sum(least: &[i64; 256], count: usize) -> i64
     requires { ⌜ count ≤ 64 ⌝ }
     requires { ⌜ Within costLimit (now least) ⌝ }
     ensures { λ r. ⌜ (r ≡ total count (λ l. getD (now (least .entry)) l (pos 0))) × (natAbs r ≤ count * costLimit) ⌝ }

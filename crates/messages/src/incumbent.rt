@@ -6,6 +6,7 @@ use crate::view::label_at;
 use crate::view::low_end;
 use crate::view::price_at;
 use index::wide;
+use instance::exclusive;
 ghost use mathlib.Core.Path.{_≡_};
 ghost use mathlib.Core.Bool.{true};
 ghost use Prim.Native.Nat.{_≤_, _<_};
@@ -45,14 +46,14 @@ pub(crate) fn none_kept(x: &[u8]) -> bool
     all_none(x)
 }
 
-// Whether each node has a position whose label no lower node takes. `untaken` has the labels that are not taken so far.
+// Whether each node has a position whose label is 255 or no lower node's. `untaken` has the labels that may be taken still, 255 always.
 pub(crate) fn is_matching(sheet: &[u8], view: View, starts: &[usize; 64], x: &[u8]) -> bool
     requires { ⌜ Viewed (now sheet) view × (now starts ≡ startsOf (now sheet)) ⌝ }
     requires { ⌜ length (now x) ≡ view .nodes ⌝ }
     ensures { λ r. ⌜ r ≡ isMatching (instanceOf (now (sheet .entry))) (now (x .entry)) ⌝ }
 {
     let n = view.nodes;
-    let mut untaken = [true; 64];
+    let mut untaken = [true; 256];
     let mut u = 0;
     while u < n {
         let k = wide(x[u]);
@@ -61,7 +62,7 @@ pub(crate) fn is_matching(sheet: &[u8], view: View, starts: &[usize; 64], x: &[u
         }
         let label = label_at(sheet, view, starts[u] + k);
         if untaken[label] {
-            untaken[label] = false;
+            untaken[label] = !exclusive(label);
             u += 1;
         } else {
             return false;

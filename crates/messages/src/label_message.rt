@@ -13,6 +13,7 @@ use index::number;
 use instance::refusal::COST_OVERFLOW;
 use instance::refusal::NONE;
 ghost use mathlib.Core.Path.{_≡_};
+ghost use mathlib.Core.Bool.{true};
 ghost use mathlib.Core.List.{[], _∷_, map};
 ghost use Prim.Native.Nat.{ℕ, _+_, _*_, _^_, _≤_, _<_};
 ghost use lib.ListN.{length, getD};
@@ -21,7 +22,7 @@ ghost use Rattle.integers.specs.Least.{leastFrom};
 ghost use Rattle.integers.specs.Sum.{Within};
 ghost use Rattle.integers.specs.Places.{others};
 ghost use Rattle.instance.specs.Sheet.{instanceOf};
-ghost use Rattle.instance.specs.Instance.{nodeCells};
+ghost use Rattle.instance.specs.Instance.{exclusive, nodeCells};
 ghost use Rattle.rules.specs.Calls.{costLimit};
 ghost use Rattle.messages.specs.Lent.{NodeFits};
 ghost use Rattle.messages.specs.Seen.{Viewed};
@@ -96,7 +97,7 @@ fn label_amount(
     place: usize,
     share: u8,
 ) -> i64
-    requires { ⌜ Viewed (now sheet) view × (place < nodeCells (instanceOf (now sheet))) × (1 ≤ share) ⌝ }
+    requires { ⌜ Viewed (now sheet) view × (place < nodeCells (instanceOf (now sheet))) × (1 ≤ share) × (exclusive (instanceOf (now sheet) .label place) ≡ true) ⌝ }
     requires { ⌜ Holders (now sheet) (now holders) ⌝ }
     requires { ⌜ NodeFits (now sheet) (now labels) ⌝ }
     ensures { λ r. ⌜ r ≡ labelAmount (instanceOf (now (sheet .entry))) (now (labels .entry)) place share ⌝ }

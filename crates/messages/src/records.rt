@@ -5,8 +5,10 @@ use crate::label_message::shift_label;
 use crate::view::View;
 use crate::view::degree_of;
 use crate::view::high_end;
+use crate::view::label_at;
 use crate::view::low_end;
 use index::wide;
+use instance::exclusive;
 use instance::refusal::NO_SUCH_RECORD;
 ghost use mathlib.Core.Path.{_≡_};
 ghost use Prim.Native.Nat.{_≤_};
@@ -67,15 +69,17 @@ fn legal_edge(sheet: &[u8], view: View, step: Record) -> bool
     false
 }
 
-// Whether the share, the node and the position exist.
-fn legal_position(sheet: &[u8], view: View, step: Record) -> bool
-    requires { ⌜ Viewed (now sheet) view ⌝ }
+// Whether the share, the node and the position exist, and its label is not 255.
+fn legal_position(sheet: &[u8], view: View, starts: &[usize; 64], step: Record) -> bool
+    requires { ⌜ Viewed (now sheet) view × (now starts ≡ startsOf (now sheet)) ⌝ }
     ensures { λ r. ⌜ r ≡ legalPosition (instanceOf (now (sheet .entry))) (step .node) (step .index) (step .share) ⌝ }
 {
     let u = step.node;
     if legal_share(step.share) {
         if u < view.nodes {
-            return step.index < degree_of(sheet, u);
+            if step.index < degree_of(sheet, u) {
+                return exclusive(label_at(sheet, view, starts[u] + step.index));
+            }
         }
     }
     false
@@ -119,7 +123,7 @@ pub(crate) fn label_record(
     requires { ⌜ NodeFits (now sheet) (now nodes) × NodeFits (now sheet) (now labels) ⌝ }
     ensures { λ r. ⌜ labelMove r (now (nodes .exit)) (now (labels .exit)) ≡ labelTaken (instanceOf (now (sheet .entry))) (view .limit) (now (nodes .entry)) (now (labels .entry)) turned (step .node) (step .index) (step .share) ⌝ }
 {
-    if legal_position(sheet, view, step) {
+    if legal_position(sheet, view, starts, step) {
         let u = step.node;
         let at = starts[u];
         let p = given(sheet, view, holders, nodes, labels, turned, at, step);

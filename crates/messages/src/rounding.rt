@@ -5,6 +5,7 @@ use crate::view::label_at;
 use crate::view::low_end;
 use index::number;
 use index::wide;
+use instance::exclusive;
 ghost use mathlib.Core.Path.{_≡_};
 ghost use mathlib.Core.Option.{none};
 ghost use Prim.Native.Nat.{ℕ, _+_, _≤_, _<_, _^_};
@@ -109,14 +110,14 @@ fn better_of(free: bool, keys: &[i64; 16], best: usize, k: usize) -> usize
     best
 }
 
-// The position with the least key of those whose labels are not yet taken, the lowest of equals, and 16 if there is none. The node's places begin at `at`.
+// The position with the least key of those whose labels may still be taken, the lowest of equals, and 16 if there is none. The node's places begin at `at`.
 fn choose(
     sheet: &[u8],
     view: View,
     at: usize,
     degree: usize,
     keys: &[i64; 16],
-    untaken: &[bool; 64],
+    untaken: &[bool; 256],
 ) -> usize
     requires { ⌜ Viewed (now sheet) view × (degree ≤ 16) × (at + degree ≤ nodeCells (instanceOf (now sheet))) ⌝ }
     ensures { λ r. ⌜ r ≡ chosenFrom (instanceOf (now (sheet .entry))) at (now (keys .entry)) (now (untaken .entry)) degree ⌝ }
@@ -141,7 +142,7 @@ fn stuck() -> Rounding
     }
 }
 
-// Rounds by the costs in `nodes` and `edges`: `x` has the positions of the nodes below `u`, and `untaken` the labels that none of them takes.
+// Rounds by the costs in `nodes` and `edges`: `x` has the positions of the nodes below `u`, and `untaken` the labels that may still be taken: 255, and those that none of them takes.
 pub(crate) fn round_all(
     sheet: &[u8],
     view: View,
@@ -156,7 +157,7 @@ pub(crate) fn round_all(
 {
     let n = view.nodes;
     let mut x = [0u8; 64];
-    let mut untaken = [true; 64];
+    let mut untaken = [true; 256];
     let mut u = 0;
     while u < n {
         let keys = keys_of(sheet, view, starts, tables, lowers, nodes, edges, &x, u);
@@ -167,7 +168,7 @@ pub(crate) fn round_all(
         }
         x[u] = k as u8;
         let label = label_at(sheet, view, at + k);
-        untaken[label] = false;
+        untaken[label] = !exclusive(label);
         u += 1;
     }
     Rounding {

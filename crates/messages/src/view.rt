@@ -67,7 +67,7 @@ pub(crate) fn high_end(sheet: &[u8], view: View, e: usize) -> usize
 // The label at a place, counted in cells.
 pub(crate) fn label_at(sheet: &[u8], view: View, place: usize) -> usize
     requires { ⌜ Viewed (now sheet) view × (place < nodeCells (instanceOf (now sheet))) ⌝ }
-    ensures { λ r. ⌜ (r ≡ instanceOf (now (sheet .entry)) .label place) × (r < 64) ⌝ }
+    ensures { λ r. ⌜ (r ≡ instanceOf (now (sheet .entry)) .label place) × (r < 256) ⌝ }
 {
     wide(sheet[view.nodes + place])
 }

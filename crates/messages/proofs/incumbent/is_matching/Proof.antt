@@ -1,4 +1,4 @@
--- `is_matching` meets its contract: after u nodes each of them passed, and `untaken` the labels that none of them takes.
+-- `is_matching` meets its contract: after u nodes each of them passed, and `untaken` the labels that may still be taken.
 use Prim.Native.Nat.{ℕ, _+_, _-_, _<_}
 use mathlib.Core.Path.{_≡_, ap, _∙_}
 use mathlib.Core.List.{List}
@@ -97,12 +97,13 @@ returns-2 c =
     (match-taken (instanceOf (s p)) (x p) (p .before .loop .inv) (label (c .before)) (c .before .label-at .ensures .1) (fair (c .before .before .before)) (c .if2 .left))
 
 array-write-untaken : tie.Need-array-write-untaken Inv-loop μ-loop
-array-write-untaken c = let p = turn (c .before .before .before) in omega (arith, c .before .label-at .ensures .1, untaken-long (instanceOf (s p)) (x p) (p .before .loop .inv))
+array-write-untaken c = let p = turn (c .before .before .before .before) in omega (arith, c .before .before .label-at .ensures .1, untaken-long (instanceOf (s p)) (x p) (p .before .loop .inv))
 
 loop-again : tie.Need-loop-again Inv-loop μ-loop
 loop-again c =
-    let p = turn (c .before .before .before) in
-    match-more (instanceOf (s p)) (x p) (p .before .loop .inv) (label (c .before)) (c .before .label-at .ensures .1) (fair (c .before .before .before)) (p .loop-test .taken) (c .if2 .taken)
+    let l = c .before .before in
+    let p = turn (l .before .before) in
+    match-more (instanceOf (s p)) (x p) (p .before .loop .inv) (label l) (l .label-at .ensures .1) (fair (l .before .before)) (p .loop-test .taken) (c .before .if2 .taken) (c .exclusive .ensures)
 
 returns-3 : tie.Need-returns-3 Inv-loop μ-loop
 returns-3 c =
@@ -125,6 +126,7 @@ is-matching-spec =
     add-label-at
     label-at-requires
     array-read-if2
+    (λ c κs. search needs)
     array-write-untaken
     (λ c. omega arith)
     (λ c. omega arith)

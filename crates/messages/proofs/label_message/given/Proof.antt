@@ -1,10 +1,11 @@
 -- `given` meets its contract: the node's amount, or the label's turned round.
 use Prim.Native.Nat.{_+_, _^_, _≤_}
-use mathlib.Core.Path.{sym, ap, _∙_, subst}
-use mathlib.Core.Bool.{Bool}
+use mathlib.Core.Path.{_≡_, sym, ap, _∙_, subst}
+use mathlib.Core.Bool.{Bool, true}
 use lib.IntN.{ℤ, pos, natAbs, _-ℤ_}
 use denote.Ref.{now}
 use Rattle.integers.proofs.Bits.{same}
+use Rattle.instance.specs.Instance.{exclusive}
 use Rattle.instance.specs.Sheet.{instanceOf}
 use Rattle.messages.specs.LabelMessage.{labelAmount, labelGiven}
 use Rattle.messages.proofs.RowLaws.{from-zero, zero-fits, neg-fits}
@@ -23,13 +24,17 @@ module _ (q : tie.Start) where
   small : natAbs amount ≤ 2 ^ 41
   small = let a = q .args in label-fits (instanceOf (now (a .sheet))) (now (a .labels)) (q .pre .1 .1 .1 .range) (a .at + a .step .index) (a .step .share)
 
+  -- the record's label is not 255
+  exclusive-at : exclusive (instanceOf (now (q .args .sheet)) .label (q .args .at + q .args .step .index)) ≡ true
+  exclusive-at = rw (q .pre .0 .1 .begins) (q .pre .0 .1 .exclusive)
+
 add-label-amount : tie.Need-add-label-amount
 add-label-amount c = let q = c .before .before .before in omega (arith, place-in (q .pre .0 .1) (q .pre .1 .1 .1))
 
 label-amount-requires : tie.Need-label-amount-requires
 label-amount-requires c κs =
     let q = c .before .before .before in
-    ((q .pre .0 .0, omega (arith, place-in (q .pre .0 .1) (q .pre .1 .1 .1), q .pre .1 .1 .1 .size), q .pre .0 .1 .some), (q .pre .1 .0, q .pre .1 .1 .1))
+    ((q .pre .0 .0, omega (arith, place-in (q .pre .0 .1) (q .pre .1 .1 .1), q .pre .1 .1 .1 .size), q .pre .0 .1 .some, exclusive-at q), (q .pre .1 .0, q .pre .1 .1 .1))
 
 minus-requires : tie.Need-minus-requires
 minus-requires c κs =

@@ -1,12 +1,15 @@
 -- `label_amount` meets its contract: a share of the distance from the least of 0 and the label's other costs.
 use mathlib.Core.Path.{_≡_, ap, ap₂, _∙_}
+use Prim.Native.Nat.{_<_}
 use lib.ListN.{getD}
 use lib.IntN.{ℤ, pos, _-ℤ_}
 use denote.Ref.{now}
 use Rattle.integers.specs.Share.{share}
 use Rattle.integers.proofs.Bits.{same}
 use Rattle.instance.specs.Sheet.{instanceOf}
+use Rattle.instance.proofs.LaidOut.{label-known}
 use Rattle.messages.specs.LabelMessage.{labelRival}
+use Rattle.messages.proofs.SheetLaws.{proper}
 use Rattle.messages.proofs.LabelMessageLaws.{label-apart, label-shared}
 use Rattle.messages.proofs.RivalLaws.{rival-is}
 use native.Mathlib.Omega.{arith}
@@ -14,12 +17,19 @@ use borrow.Author.Needs.{needs}
 use Rattle.messages.proofs.label_message.label_amount.Statement.{statement}
 use Rattle.messages.proofs.label_message.label_amount.Tie as tie
 
+-- the label has a row in the index
+row : (l : tie.After-label-at) → l .label-at .result < 64
+row l =
+    let q = l .before .before in
+    let good = proper (now (q .args .sheet)) (q .pre .0 .0 .readable) in
+    omega (arith, l .label-at .ensures .0, label-known good (q .args .place) (q .pre .0 .1) (q .pre .0 .3), good .labelsFew)
+
 rival : (p : tie.After-label-rival) → (let a = p .before .before .before .before .args in p .label-rival .result ≡ labelRival (instanceOf (now (a .sheet))) (now (a .labels)) (a .place))
 rival p =
     let q = p .before .before .before .before in
     let a = q .args in
     let l = p .before .before .label-at in
-    p .label-rival .ensures ∙ rival-is (instanceOf (now (a .sheet))) (q .pre .1 .0) (now (a .labels)) (a .place) (l .result) (l .ensures .1) (l .ensures .0)
+    p .label-rival .ensures ∙ rival-is (instanceOf (now (a .sheet))) (q .pre .1 .0) (now (a .labels)) (a .place) (l .result) (row (p .before .before)) (l .ensures .0)
 
 mul-minus : tie.Need-mul-minus
 mul-minus c = let q = c .before .before in omega (arith, q .pre .0 .1, q .pre .1 .1 .size)
@@ -32,7 +42,7 @@ label-rival-requires c κs =
     let q = c .before .before .before in
     let l = c .before .label-at in
     let x = q .pre .1 .0 in
-    ((l .ensures .1, x .few (l .result) (l .ensures .1)), λ j h. omega (arith, x .inside (l .result) j (l .ensures .1) h, q .pre .1 .1 .size))
+    ((row (c .before), x .few (l .result) (row (c .before))), λ j h. omega (arith, x .inside (l .result) j (row (c .before)) h, q .pre .1 .1 .size))
 
 minus-requires : tie.Need-minus-requires
 minus-requires c κs =

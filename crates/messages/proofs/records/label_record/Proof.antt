@@ -34,7 +34,7 @@ module _ (p : tie.Then1) where
   legal = sym (p .before .legal-position .ensures) ∙ p .if1 .taken
 
   node : r .node < I .nodeCount
-  node = let (a, b, c) = legal-position-is I (r .node) (r .index) (r .share) legal in b
+  node = let (a, b, c, d) = legal-position-is I (r .node) (r .index) (r .share) legal in b
 
   small : r .node < 64
   small = omega (arith, node, start .pre .0 .0 .nodes, nodes-few (start .pre .0 .0))

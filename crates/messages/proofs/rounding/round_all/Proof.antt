@@ -112,16 +112,17 @@ label-at-requires : tie.Need-label-at-requires Inv-loop μ-loop
 label-at-requires c κs = let p = c .before in (start (turn p) .pre .seen .viewed, inside p (c .if1 .left))
 
 add-u : tie.Need-add-u Inv-loop μ-loop
-add-u c = let p = c .before .before in omega (arith, few (turn p))
+add-u c = let p = c .before .before .before in omega (arith, few (turn p))
 
 loop-less : tie.Need-loop-less Inv-loop μ-loop
-loop-less c = let p = c .before .before in omega (arith, turn p .loop-test .taken)
+loop-less c = let p = c .before .before .before in omega (arith, turn p .loop-test .taken)
 
 loop-again : tie.Need-loop-again Inv-loop μ-loop
 loop-again c =
-    let p = c .before .before in
+    let l = c .before in
+    let p = l .before .before in
     let q = start (turn p) in
-    round-turn (q .pre .seen .viewed) (now (q .args .nodes)) (now (q .args .edges)) (turn p .before .loop .inv) (turn p .loop-test .taken) (picked p) (c .before .if1 .left) (c .label-at .ensures .0 ∙ ap (λ (a : ℕ). I (turn p) .label (a + k p)) (begins (turn p)))
+    round-turn (q .pre .seen .viewed) (now (q .args .nodes)) (now (q .args .edges)) (turn p .before .loop .inv) (turn p .loop-test .taken) (picked p) (l .before .if1 .left) (l .label-at .ensures .0 ∙ ap (λ (a : ℕ). I (turn p) .label (a + k p)) (begins (turn p))) (c .exclusive .ensures)
 
 returns-2 : tie.Need-returns-2 Inv-loop μ-loop
 returns-2 c = let q = c .before .before .before in round-done (q .pre .seen .viewed) (now (q .args .nodes)) (now (q .args .edges)) (c .before .loop .inv) (c .loop-test .left)
@@ -144,6 +145,7 @@ round-all-spec =
     array-write-x
     add-label-at
     label-at-requires
+    (λ c κs. search needs)
     (λ c. search needs)
     add-u
     loop-less

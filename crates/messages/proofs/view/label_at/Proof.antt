@@ -2,7 +2,8 @@
 use mathlib.Core.Path.{_∙_}
 use denote.Ref.{now}
 use native.Mathlib.Omega.{arith}
-use Rattle.messages.proofs.SheetLaws.{whole, label-byte, label-is, label-small}
+use Rattle.instance.proofs.LaidOut.{label-small}
+use Rattle.messages.proofs.SheetLaws.{whole, proper, label-byte, label-is}
 use borrow.Author.Needs.{needs}
 use Rattle.messages.proofs.view.label_at.Statement.{statement}
 use Rattle.messages.proofs.view.label_at.Tie as tie
@@ -17,7 +18,7 @@ returns : tie.Need-returns
 returns c =
     let q = c .before .before .before .before in
     let e = c .wide .ensures .0 ∙ label-is (q .pre .0) (q .args .place) in
-    (e, omega (arith, e, label-small (now (q .args .sheet)) (q .pre .0 .readable) (q .pre .1)))
+    (e, omega (arith, e, label-small (proper (now (q .args .sheet)) (q .pre .0 .readable)) (q .args .place) (q .pre .1)))
 
 pub label-at-spec : {M : Type 1} → statement M
 label-at-spec = tie.close (tie.spec add-wide shared-slice-read-wide (λ c κs. search needs) returns)
