@@ -3,14 +3,70 @@
 use crate::calls::{Buffers, Calls, Twin, COUNTS, READING, SPAN, VALUES};
 use crate::exports::Proved;
 use crate::sheets::{self, Rng};
-use crate::twin::{self, Sheet, LIMIT, RECORD};
+use crate::twin::{self, Refusal, Sheet, LIMIT, RECORD, TRAILER, VANISHED};
 
 const CALLS: [&str; 6] = ["read", "open", "run", "report", "sweep", "edge"];
 const REFUSALS: usize = 15;
 
-/// How often each call answered each refusal, 0 being none.
+/// What shows the rules of the 255, by place in SEEN.
+#[derive(Clone, Copy)]
+enum Seen {
+    Sheet,
+    EveryNode,
+    Alone,
+    NoOthers,
+    NotLast,
+    Twice,
+    Reported,
+    Torn,
+    Rounded,
+    Stuck,
+    Kind3,
+    Kind4,
+    CostLent,
+    CostRefused,
+    Written,
+    Unfit,
+}
+
+const SEEN: [&str; Seen::Unfit as usize + 1] = [
+    "readable sheets with a 255",
+    "of these with one at every node",
+    "of these with one alone at some node",
+    "of these with an L of 0",
+    "sheets refused 5 with a 255 that is not last",
+    "of these with 255 twice at a node",
+    "reports on a kept matching with 255 twice or more",
+    "reports refused 10 with 255 twice or more",
+    "runs that keep a new matching with 255 twice or more",
+    "runs with a rounding stuck at a node without a 255, others having one",
+    "runs refused 12 at kind 3 naming a 255",
+    "runs refused 12 at kind 4 naming a 255",
+    "runs and reports with a label cost not 0 at a 255",
+    "runs and reports refused 9 for label costs at a 255 alone",
+    "sweeps written for a sheet with a 255",
+    "sweeps refused 8 for a length of 2E + N + 1 records",
+];
+
 #[derive(Default)]
-struct Tally([[u64; REFUSALS]; CALLS.len()]);
+struct Tally {
+    /// How often each call answered each refusal, 0 being none.
+    refusals: [[u64; REFUSALS]; CALLS.len()],
+    seen: [u64; SEEN.len()],
+}
+
+impl Tally {
+    fn see(&mut self, what: Seen, occurs: bool) {
+        self.seen[what as usize] += u64::from(occurs);
+    }
+}
+
+/// Where a readable sheet has a 255.
+struct Place {
+    node: usize,
+    position: usize,
+    cell: usize,
+}
 
 /// The name of the call that differed.
 struct Difference(&'static str);
@@ -20,6 +76,8 @@ struct Case<'a> {
     sheet: &'a [u8],
     proved: Buffers,
     twin: Buffers,
+    /// Nowhere in a sheet that cannot be read.
+    vanished: Vec<Place>,
     tally: &'a mut Tally,
 }
 
@@ -44,15 +102,20 @@ fn print(seed: u64, count: u64, tally: &Tally) {
         println!("{name:<7}{cells}");
     };
     line("", &(0..REFUSALS as u64).collect::<Vec<_>>());
-    for (name, row) in CALLS.iter().zip(&tally.0) {
+    for (name, row) in CALLS.iter().zip(&tally.refusals) {
         line(name, row);
+    }
+    for (what, count) in SEEN.iter().zip(tally.seen) {
+        println!("{count:>15}  {what}");
     }
 }
 
 fn compare_case(rng: &mut Rng, tally: &mut Tally) -> Result<(), Difference> {
     let sheet = if rng.percent(65) { sheets::valid(rng).bytes() } else { sheets::damaged(rng) };
+    see_sheet(&sheet, tally);
     let buffers = Buffers::fitting(&sheet);
-    let mut case = Case { sheet: &sheet, proved: buffers.clone(), twin: buffers, tally };
+    let vanished = vanished(&sheet);
+    let mut case = Case { sheet: &sheet, proved: buffers.clone(), twin: buffers, vanished, tally };
     case.read(rng)?;
     case.edge(rng)?;
     case.poke_all(rng);
@@ -61,6 +124,48 @@ fn compare_case(rng: &mut Rng, tally: &mut Tally) -> Result<(), Difference> {
         case.step(rng)?;
     }
     Ok(())
+}
+
+fn see_sheet(bytes: &[u8], tally: &mut Tally) {
+    let sheet = match twin::read(bytes) {
+        Ok(sheet) => sheet,
+        Err(Refusal::Label) => return see_misplaced(bytes, tally),
+        Err(_) => return,
+    };
+    let places = vanished(bytes);
+    let any = !places.is_empty();
+    tally.see(Seen::Sheet, any);
+    tally.see(Seen::EveryNode, any && places.len() == sheet.degrees.len());
+    tally.see(Seen::Alone, places.iter().any(|place| sheet.degrees[place.node] == 1));
+    tally.see(Seen::NoOthers, any && sheet.label_limit == 0);
+}
+
+/// For a sheet refused with 5, whose sections fit.
+fn see_misplaced(bytes: &[u8], tally: &mut Tally) {
+    let (degrees, mut labels) = bytes.split_at(usize::from(bytes[bytes.len() - TRAILER]));
+    let (mut not_last, mut twice) = (false, false);
+    for &degree in degrees {
+        let (own, rest) = labels.split_at(usize::from(degree));
+        not_last |= own[..own.len() - 1].contains(&VANISHED);
+        twice |= own.iter().filter(|&&label| label == VANISHED).count() > 1;
+        labels = rest;
+    }
+    tally.see(Seen::NotLast, not_last);
+    tally.see(Seen::Twice, twice);
+}
+
+fn vanished(bytes: &[u8]) -> Vec<Place> {
+    let Ok(sheet) = twin::read(bytes) else { return Vec::new() };
+    let mut places = Vec::new();
+    for (node, &degree) in sheet.degrees.iter().enumerate() {
+        for position in 0..usize::from(degree) {
+            let cell = usize::from(sheet.node_starts[node]) + position;
+            if sheet.labels[cell] == VANISHED {
+                places.push(Place { node, position, cell });
+            }
+        }
+    }
+    places
 }
 
 /// The right number of places, now and then another.
@@ -102,7 +207,7 @@ impl Case<'_> {
         proved: T,
         twin: T,
     ) -> Result<(), Difference> {
-        self.tally.0[call][number as usize % REFUSALS] += 1;
+        self.tally.refusals[call][number as usize % REFUSALS] += 1;
         if proved == twin && self.proved == self.twin {
             Ok(())
         } else {
@@ -127,8 +232,12 @@ impl Case<'_> {
     fn run(&mut self, rng: &mut Rng, records: &[u8]) -> Result<(), Difference> {
         let length = places(rng, COUNTS);
         let (mut left, mut right) = (vec![77; length], vec![77; length]);
+        let before = self.twin.incumbent.clone();
+        let costs = self.vanished_costs();
         let left_number = Proved::run(self.sheet, records, &mut self.proved, &mut left);
         let number = Twin::run(self.sheet, records, &mut self.twin, &mut right);
+        self.see_costs(number, costs);
+        self.see_run(number, records, &right, &before);
         self.judge(2, u64::from(number), (left_number, left), (number, right))
     }
 
@@ -137,19 +246,28 @@ impl Case<'_> {
         let (mut left, mut right) = (vec![77; length], vec![77; length]);
         let left_number = Proved::report(self.sheet, &self.proved, &mut left);
         let number = Twin::report(self.sheet, &self.twin, &mut right);
+        self.see_costs(number, self.vanished_costs());
+        let twice = self.vanished_taken() > 1;
+        self.tally.see(Seen::Reported, number == 0 && twice);
+        self.tally.see(Seen::Torn, number == Refusal::Incumbent as u8 && twice);
         self.judge(3, u64::from(number), (left_number, left), (number, right))
     }
 
     /// Writes a sweep and, if it was written, runs it.
     fn sweep(&mut self, rng: &mut Rng) -> Result<(), Difference> {
         let direction = if rng.percent(92) { rng.byte() & 1 } else { rng.pick(&[2, 3, 128, 255]) };
-        let right = twin::read(self.sheet)
+        // As if no label were 255.
+        let full = twin::read(self.sheet)
             .map_or(RECORD, |sheet| RECORD * (2 * sheet.ends.len() + sheet.node_cells() + 1));
-        let length =
-            if rng.percent(92) { right } else { rng.pick(&[0, right - 1, right + 1, right + RECORD]) };
+        let right = full - RECORD * self.vanished.len();
+        let others = [0, right - 1, right + 1, right - RECORD, right + RECORD, full, full];
+        let length = if rng.percent(88) { right } else { rng.pick(&others) };
         let (mut left, mut right) = (vec![0xA5; length], vec![0xA5; length]);
         let left_number = Proved::sweep(self.sheet, direction, &mut left);
         let number = Twin::sweep(self.sheet, direction, &mut right);
+        let any = !self.vanished.is_empty();
+        self.tally.see(Seen::Written, number == 0 && any);
+        self.tally.see(Seen::Unfit, number == Refusal::Lent as u8 && any && length == full);
         self.judge(4, u64::from(number), (left_number, &left), (number, &right))?;
         if number == 0 {
             self.run(rng, &right)
@@ -194,9 +312,51 @@ impl Case<'_> {
         Ok(())
     }
 
+    /// How many nodes take a 255 in the matching kept.
+    fn vanished_taken(&self) -> usize {
+        let incumbent = &self.twin.incumbent;
+        let takes = |place: &&Place| {
+            incumbent.get(place.node).is_some_and(|&position| usize::from(position) == place.position)
+        };
+        self.vanished.iter().filter(takes).count()
+    }
+
+    /// Whether a label cost at a 255 is not 0, and whether the others are all within the limit.
+    fn vanished_costs(&self) -> (bool, bool) {
+        let mut others = self.twin.clone();
+        let mut any = false;
+        for place in &self.vanished {
+            if let Some(cost) = others.labels.get_mut(place.cell) {
+                any |= std::mem::take(cost) != 0;
+            }
+        }
+        let mut all = others.nodes.iter().chain(&others.labels).chain(&others.edges);
+        (any, all.all(|cost| (-LIMIT..=LIMIT).contains(cost)))
+    }
+
+    /// What a run or report answered, and the costs it found.
+    fn see_costs(&mut self, number: u8, (any, others_within): (bool, bool)) {
+        self.tally.see(Seen::CostLent, any && matches!(number, 0 | 12..));
+        self.tally.see(Seen::CostRefused, number == Refusal::CostRange as u8 && others_within);
+    }
+
+    fn see_run(&mut self, number: u8, records: &[u8], counts: &[u64], before: &[u8]) {
+        let twice = self.vanished_taken() > 1;
+        self.tally.see(Seen::Rounded, twice && self.twin.incumbent != before);
+        let &[done, stuck] = counts else { return };
+        self.tally.see(Seen::Stuck, stuck > 0 && !self.vanished.is_empty());
+        let stopped = records.chunks_exact(RECORD).nth(done as usize);
+        let (12, Some(&[kind, node, low, high, 1..=64])) = (number, stopped) else { return };
+        let index = usize::from(u16::from_le_bytes([low, high]));
+        let named =
+            self.vanished.iter().any(|place| (place.node, place.position) == (usize::from(node), index));
+        self.tally.see(Seen::Kind3, named && kind == 3);
+        self.tally.see(Seen::Kind4, named && kind == 4);
+    }
+
     /// The same change on both sides.
     fn poke(&mut self, rng: &mut Rng) {
-        match rng.below(8) {
+        match rng.below(9) {
             0 => self.poke_all(rng),
             1 => poke_incumbent(rng, self.sheet, &mut self.twin.incumbent),
             2 => {
@@ -214,6 +374,7 @@ impl Case<'_> {
                     *cost = rng.between(0, LIMIT);
                 }
             }
+            4 => self.poke_vanished(rng),
             _ => {
                 let buffer = rng.below(3);
                 let costs = cost_buffer(&mut self.twin, buffer);
@@ -226,6 +387,19 @@ impl Case<'_> {
             }
         }
         self.proved = self.twin.clone();
+    }
+
+    /// Label costs where the rules know none: any within the limit, now and then one past it.
+    fn poke_vanished(&mut self, rng: &mut Rng) {
+        let spread = rng.pick(&[9, 1_000_000, LIMIT]);
+        let past = rng.percent(30);
+        for place in &self.vanished {
+            self.twin.labels[place.cell] = if past && rng.percent(50) {
+                rng.pick(&[LIMIT + 1, -LIMIT - 1, i64::MIN, i64::MAX])
+            } else {
+                rng.between(-spread, spread)
+            };
+        }
     }
 
     fn poke_all(&mut self, rng: &mut Rng) {
@@ -248,7 +422,11 @@ impl Case<'_> {
         for _ in 0..count {
             let mut record = sheet.as_ref().map_or([5, 0, 0, 0, 0], |sheet| legal_record(rng, sheet));
             if rng.percent(bad) {
-                spoil(rng, &mut record);
+                let place = self.vanished.get(rng.below(self.vanished.len()));
+                match place.filter(|_| rng.percent(40)) {
+                    Some(place) => record = vanished_record(rng, place),
+                    None => spoil(rng, &mut record),
+                }
             }
             list.extend(record);
         }
@@ -297,10 +475,14 @@ fn wild_cost(rng: &mut Rng) -> i64 {
 fn poke_incumbent(rng: &mut Rng, sheet: &[u8], incumbent: &mut [u8]) {
     incumbent.fill(twin::UNSET);
     let Ok(sheet) = twin::read(sheet) else { return };
-    match rng.below(5) {
+    match rng.below(6) {
         0 => {}
         1..=2 => fill_matching(rng, &sheet, incumbent),
         3 => {
+            fill_matching(rng, &sheet, incumbent);
+            share_label(rng, &sheet, incumbent);
+        }
+        4 => {
             fill_matching(rng, &sheet, incumbent);
             let place = rng.below(incumbent.len());
             if let Some(byte) = incumbent.get_mut(place) {
@@ -313,18 +495,38 @@ fn poke_incumbent(rng: &mut Rng, sheet: &[u8], incumbent: &mut [u8]) {
 
 /// A free position for each node, none kept where one finds no free label.
 fn fill_matching(rng: &mut Rng, sheet: &Sheet, incumbent: &mut [u8]) {
-    let mut taken = 0_u64;
+    let mut taken = Vec::new();
+    // Where a 255 stands if there is one, which is always free.
+    let last_first = rng.pick(&[0, 0, 50, 100]);
     for node in 0..incumbent.len() {
         let degree = usize::from(sheet.degrees[node]);
         let start = usize::from(sheet.node_starts[node]);
-        let first = rng.below(degree);
-        let free =
-            (0..degree).map(|k| (first + k) % degree).find(|&k| taken >> sheet.labels[start + k] & 1 == 0);
-        let Some(position) = free else {
+        let first = if rng.percent(last_first) { degree - 1 } else { rng.below(degree) };
+        let mut positions = (0..degree).map(|k| (first + k) % degree);
+        let Some(position) = positions.find(|&k| !taken.contains(&sheet.labels[start + k])) else {
             return incumbent.fill(twin::UNSET);
         };
-        taken |= 1 << sheet.labels[start + position];
+        taken.extend(Some(sheet.labels[start + position]).filter(|&label| label != VANISHED));
         incumbent[node] = position as u8;
+    }
+}
+
+/// Lets a node take the label of another, if it has it; with a 255 it stays a matching.
+fn share_label(rng: &mut Rng, sheet: &Sheet, incumbent: &mut [u8]) {
+    let labels_of = |node: usize| {
+        let start = usize::from(sheet.node_starts[node]);
+        &sheet.labels[start..start + usize::from(sheet.degrees[node])]
+    };
+    let giver = rng.below(incumbent.len());
+    let Some(&position) = incumbent.get(giver) else { return };
+    let label = labels_of(giver).get(usize::from(position));
+    let first = rng.below(incumbent.len());
+    for node in (first..incumbent.len()).chain(0..first).filter(|&node| node != giver) {
+        let shared = labels_of(node).iter().position(|own| Some(own) == label);
+        if let Some(position) = shared {
+            incumbent[node] = position as u8;
+            return;
+        }
     }
 }
 
@@ -341,8 +543,18 @@ fn legal_record(rng: &mut Rng, sheet: &Sheet) -> [u8; RECORD] {
         return [kind, rng.pick(&sheet.ends[edge]), low, high, share];
     }
     let node = rng.below(nodes);
-    let position = rng.below(usize::from(sheet.degrees[node])) as u8;
-    [kind, node as u8, position, 0, share]
+    let last = sheet.node_starts[node] + u16::from(sheet.degrees[node]) - 1;
+    let vanishes = sheet.labels[usize::from(last)] == VANISHED;
+    match usize::from(sheet.degrees[node]) - usize::from(vanishes) {
+        0 => [5, 0, 0, 0, 0],
+        positions => [kind, node as u8, rng.below(positions) as u8, 0, share],
+    }
+}
+
+/// Kind 3 or 4 at a 255, and nothing else wrong.
+fn vanished_record(rng: &mut Rng, place: &Place) -> [u8; RECORD] {
+    let share = if rng.percent(60) { 1 } else { 1 + rng.below(64) as u8 };
+    [3 + rng.below(2) as u8, place.node as u8, place.position as u8, 0, share]
 }
 
 fn spoil(rng: &mut Rng, record: &mut [u8; RECORD]) {

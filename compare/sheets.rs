@@ -2,6 +2,7 @@
 
 use crate::twin::{
     MARK, MAX_DEGREE, MAX_EDGES, MAX_EDGE_CELLS, MAX_LABELS, MAX_LENGTH, MAX_NODES, MAX_PRICE, TRAILER,
+    VANISHED,
 };
 
 /// SplitMix64.
@@ -162,9 +163,15 @@ impl Shape {
     fn draw(self, rng: &mut Rng) -> Parts {
         let mut parts = Parts { label_limit: self.label_limit, ..Parts::default() };
         let mut universe: Vec<u8> = (0..self.label_limit as u8).collect();
+        // How many nodes in a hundred have a 255; without other labels every one.
+        let vanishing = if self.label_limit == 0 { 100 } else { rng.pick(&[0, 0, 10, 60, 100]) };
         for _ in 0..self.nodes {
             let degree = rng.between(self.least_degree as i64, self.most_degree as i64) as usize;
-            let labels = some_labels(rng, &mut universe, degree.min(self.label_limit));
+            let vanishes = rng.percent(vanishing);
+            // The 255 takes one of the places, at degree 1 the only one.
+            let others = (degree - usize::from(vanishes)).min(self.label_limit);
+            let mut labels = some_labels(rng, &mut universe, others);
+            labels.extend(vanishes.then_some(VANISHED));
             parts.add_node(labels);
         }
         let mut pairs = all_pairs(self.nodes);
@@ -179,7 +186,7 @@ impl Shape {
 
 /// A valid sheet of some shape.
 pub fn valid(rng: &mut Rng) -> Parts {
-    match rng.below(12) {
+    match rng.below(13) {
         0 => Shape { nodes: 0, label_limit: label_limit(rng, 0), ..FULL }.draw(rng),
         1..=4 => {
             let label_limit = 1 + rng.below(9);
@@ -196,6 +203,13 @@ pub fn valid(rng: &mut Rng) -> Parts {
         8 => Shape { least_degree: MAX_DEGREE, ..FULL }.draw(rng),
         9 => Shape { least_degree: 4, most_degree: 4, ..FULL }.draw(rng),
         10 => star(rng),
+        11 => Shape {
+            nodes: rng.pick(&[1, 2, 9, MAX_NODES]),
+            label_limit: 0,
+            edges: rng.below(MAX_EDGES + 1),
+            ..FULL
+        }
+        .draw(rng),
         _ => Shape { most_degree: 3, ..FULL }.draw(rng),
     }
 }
@@ -317,7 +331,7 @@ fn damage_parts(rng: &mut Rng, parts: &mut Parts) {
     let off_scale = [MAX_PRICE + 1, -MAX_PRICE - 1, i32::MIN, i32::MAX];
     // Two times in five a second fault, so that the order of the checks shows.
     for _ in 0..1 + usize::from(rng.percent(40)) {
-        match rng.below(6) {
+        match rng.below(7) {
             0 => change(rng, &mut parts.degrees, |rng, _| rng.pick(&[0, 17, 255, 1, 16])),
             1 => change(rng, &mut parts.labels, |rng, label| {
                 rng.pick(&[label.wrapping_add(1), 0, 63, 64, 255])
@@ -327,8 +341,35 @@ fn damage_parts(rng: &mut Rng, parts: &mut Parts) {
             }),
             3 => change(rng, &mut parts.node_prices, |rng, _| rng.pick(&off_scale)),
             4 => change(rng, &mut parts.edge_prices, |rng, _| rng.pick(&off_scale)),
+            5 => misplace_vanished(rng, parts),
             _ => parts.label_limit = rng.below(MAX_LABELS + 2),
         }
+    }
+}
+
+/// A 255 that is not its node's last or not its only one, one after a label that is out of order, or
+/// another label in its place that is past the limit.
+fn misplace_vanished(rng: &mut Rng, parts: &mut Parts) {
+    let node = rng.below(parts.degrees.len());
+    let start = parts.degrees[..node].iter().map(|&degree| usize::from(degree)).sum();
+    // The degrees may be damaged already.
+    let (Some(&degree), Some(rest)) = (parts.degrees.get(node), parts.labels.get_mut(start..)) else {
+        return;
+    };
+    let own = rest.get_mut(..usize::from(degree)).unwrap_or_default();
+    let Some((last, others)) = own.split_last_mut() else { return };
+    match rng.below(5) {
+        0 => change(rng, others, |_, _| VANISHED),
+        1 => {
+            change(rng, others, |_, _| VANISHED);
+            *last = VANISHED;
+        }
+        2 => {
+            change(rng, others, |rng, _| rng.pick(&[0, 63, 64, 254]));
+            *last = VANISHED;
+        }
+        3 => *last = rng.pick(&[64, 127, 254]),
+        _ => own.fill(VANISHED),
     }
 }
 

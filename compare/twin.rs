@@ -1,4 +1,5 @@
-//! The rules of document 01 in plain Rust: the opponent of the proved library.
+//! The rules of document 01 with request 1 of document 02 in plain Rust: the opponent of the proved
+//! library.
 //!
 //! Every public function is lent slices, reads the sheet once and makes the document's checks in the
 //! document's order.
@@ -21,6 +22,10 @@ pub const MARK: [u8; 4] = *b"MSH1";
 pub const LIMIT: i64 = 1 << 40;
 /// Fills the incumbent when no matching is kept.
 pub const UNSET: u8 = 255;
+/// The label of a mark that has vanished: outside the label limit, a node's last if it has it, and free
+/// to any number of nodes. Its cell is a node cost like any other; its label cost is held to the limit
+/// and otherwise neither read nor written.
+pub const VANISHED: u8 = 255;
 /// Bytes of one record: kind, node, index (2), share.
 pub const RECORD: usize = 5;
 
@@ -141,23 +146,33 @@ fn read_ends(ends: &[[u8; 2]], degrees: &[u8]) -> Result<([u16; MAX_EDGES], usiz
     Ok((starts, cells))
 }
 
+/// A 255 that is not its node's last counts as a label and is not below the limit.
 fn labels_rise(degrees: &[u8], mut labels: &[u8], limit: usize) -> bool {
     for &degree in degrees {
         let (own, rest) = labels.split_at(usize::from(degree));
-        let Some((&first, others)) = own.split_first() else { return false };
-        let mut last = first;
-        for &label in others {
-            if label <= last {
+        if let Some((&first, others)) = without_vanished(own).split_first() {
+            let mut last = first;
+            for &label in others {
+                if label <= last {
+                    return false;
+                }
+                last = label;
+            }
+            if usize::from(last) >= limit {
                 return false;
             }
-            last = label;
-        }
-        if usize::from(last) >= limit {
-            return false;
         }
         labels = rest;
     }
     true
+}
+
+/// One node's labels without a 255 at their end; none may be left.
+fn without_vanished(own: &[u8]) -> &[u8] {
+    match own {
+        [others @ .., VANISHED] => others,
+        _ => own,
+    }
 }
 
 /// Folded without an early exit, so that it runs several prices at a time.
@@ -185,8 +200,15 @@ impl Sheet<'_> {
         self.edge_prices.len()
     }
 
+    /// A sweep has no record of kind 3 or 4 for a 255.
     fn sweep_records(&self) -> usize {
-        2 * self.ends.len() + self.node_cells() + 1
+        let moved: usize = (0..self.degrees.len()).map(|node| self.moved_labels(node).len()).sum();
+        2 * self.ends.len() + moved + 1
+    }
+
+    /// The labels of a node that kinds 3 and 4 may name: all but a 255.
+    fn moved_labels(&self, node: usize) -> &[u8] {
+        without_vanished(&self.labels[self.cells_of(node)])
     }
 
     fn cells_of(&self, node: usize) -> Range<usize> {
@@ -225,15 +247,15 @@ impl Sheet<'_> {
         if !incumbent.is_empty() && incumbent.iter().all(|&position| position == UNSET) {
             return Ok(None);
         }
-        let mut taken = 0_u64;
+        let mut taken = Taken::NONE;
         for (node, &position) in incumbent.iter().enumerate() {
             let Some(&label) = self.labels[self.cells_of(node)].get(usize::from(position)) else {
                 return Err(Refusal::Incumbent);
             };
-            if taken >> label & 1 != 0 {
+            if taken.has(label) {
                 return Err(Refusal::Incumbent);
             }
-            taken |= 1 << label;
+            taken.add(label);
         }
         Ok(Some(self.cost(incumbent)))
     }
@@ -254,12 +276,34 @@ impl Sheet<'_> {
     fn bound(&self, nodes: &[i64], labels: &[i64], edges: &[i64]) -> i64 {
         let mut label_least = [0_i64; MAX_LABELS];
         for (&label, &cost) in zip(self.labels, labels) {
-            let least = &mut label_least[usize::from(label)];
-            *least = cost.min(*least);
+            // A 255 has no place: its label cost enters no sum.
+            if let Some(least) = label_least.get_mut(usize::from(label)) {
+                *least = cost.min(*least);
+            }
         }
         let nodes = (0..self.degrees.len()).map(|node| least(&nodes[self.cells_of(node)]));
         let edges = (0..self.ends.len()).map(|edge| least(&edges[self.table(edge).cells]));
         nodes.sum::<i64>() + edges.sum::<i64>() + label_least.iter().sum::<i64>()
+    }
+}
+
+/// The labels used up by a labelling, a bit for each.
+struct Taken(u64);
+
+impl Taken {
+    const NONE: Taken = Taken(0);
+
+    /// None for a 255, which is never used up.
+    fn bit(label: u8) -> u64 {
+        1_u64.checked_shl(u32::from(label)).unwrap_or(0)
+    }
+
+    fn has(&self, label: u8) -> bool {
+        self.0 & Self::bit(label) != 0
+    }
+
+    fn add(&mut self, label: u8) {
+        self.0 |= Self::bit(label);
     }
 }
 
@@ -394,7 +438,7 @@ pub fn run(
     Run { sheet: &sheet, nodes, labels, edges, incumbent, kept, holders: None }.records(records)
 }
 
-/// The cells of each label: label s has cells[starts[s]..starts[s + 1]].
+/// The cells of each label below the limit: label s has cells[starts[s]..starts[s + 1]].
 struct Holders {
     starts: [u16; MAX_LABELS + 1],
     cells: [u16; MAX_NODE_CELLS],
@@ -404,7 +448,10 @@ impl Holders {
     fn new(labels: &[u8]) -> Self {
         let mut starts = [0; MAX_LABELS + 1];
         for &label in labels {
-            starts[usize::from(label) + 1] += 1;
+            // A 255 has no place, here and below.
+            if let Some(count) = starts.get_mut(usize::from(label) + 1) {
+                *count += 1;
+            }
         }
         for label in 0..MAX_LABELS {
             starts[label + 1] += starts[label];
@@ -412,9 +459,10 @@ impl Holders {
         let mut next = starts;
         let mut cells = [0; MAX_NODE_CELLS];
         for (cell, &label) in (0..).zip(labels) {
-            let place = &mut next[usize::from(label)];
-            cells[usize::from(*place)] = cell;
-            *place += 1;
+            if let Some(place) = next.get_mut(usize::from(label)) {
+                cells[usize::from(*place)] = cell;
+                *place += 1;
+            }
         }
         Holders { starts, cells }
     }
@@ -481,7 +529,9 @@ impl Run<'_> {
                 _ => self.edge_to_node(u, index, by_row, share)?,
             }
         } else {
-            if index >= usize::from(self.sheet.degrees[u]) {
+            let cell = usize::from(self.sheet.node_starts[u]) + index;
+            // A 255 is a position of its node, but has no label cost to move.
+            if index >= usize::from(self.sheet.degrees[u]) || self.sheet.labels[cell] == VANISHED {
                 return Err(Refusal::Record);
             }
             match kind {
@@ -580,15 +630,15 @@ impl Run<'_> {
         let keys = &mut keys[..self.nodes.len()];
         keys.copy_from_slice(self.nodes);
         let mut labelling = [0; MAX_NODES];
-        let mut taken = 0_u64;
+        let mut taken = Taken::NONE;
         let mut edge = 0;
         for u in 0..sheet.degrees.len() {
             let cells = sheet.cells_of(u);
             let labels = &sheet.labels[cells.clone()];
-            let Some(position) = least_free(&keys[cells], labels, taken) else {
+            let Some(position) = least_free(&keys[cells], labels, &taken) else {
                 return false;
             };
-            taken |= 1 << labels[position];
+            taken.add(labels[position]);
             labelling[u] = position as u8;
             while let Some(&[_, v]) = sheet.ends.get(edge).filter(|ends| usize::from(ends[0]) == u) {
                 let Table { cells, columns } = sheet.table(edge);
@@ -664,10 +714,10 @@ fn leasts(table: &[i64], columns: usize, by_row: bool, leasts: &mut [i64]) {
 }
 
 /// The position with the least key among labels not taken; the lowest among equals.
-fn least_free(keys: &[i64], labels: &[u8], taken: u64) -> Option<usize> {
+fn least_free(keys: &[i64], labels: &[u8], taken: &Taken) -> Option<usize> {
     let mut best = None;
     for (position, (&key, &label)) in zip(keys, labels).enumerate() {
-        if taken >> label & 1 == 0 && best.is_none_or(|(_, least)| key < least) {
+        if !taken.has(label) && best.is_none_or(|(_, least)| key < least) {
             best = Some((position, key));
         }
     }
@@ -714,12 +764,12 @@ fn forward(sheet: &Sheet, out: &mut [[u8; RECORD]]) {
     let mut sends = [0; MAX_NODES];
     let mut at = 0;
     // From here on `lower` holds where a node's next record of kind 2 goes.
-    for (u, &degree) in sheet.degrees.iter().enumerate() {
+    for u in 0..sheet.degrees.len() {
         sends[u] = at + lower[u];
         lower[u] = at;
         at = sends[u] + shares[u];
         shares[u] += 1;
-        for position in 0..usize::from(degree) {
+        for position in 0..sheet.moved_labels(u).len() {
             out[at] = record(3, u, position, 1);
             at += 1;
         }
@@ -763,7 +813,10 @@ fn write_edges(
 fn write_labels(sheet: &Sheet, out: &mut [[u8; RECORD]]) -> usize {
     let mut counts = [0; MAX_LABELS];
     for &label in sheet.labels {
-        counts[usize::from(label)] += 1;
+        // A 255 has no place.
+        if let Some(count) = counts.get_mut(usize::from(label)) {
+            *count += 1;
+        }
     }
     let mut at = 0;
     // From here on each count holds where the label's next record goes.
@@ -771,7 +824,7 @@ fn write_labels(sheet: &Sheet, out: &mut [[u8; RECORD]]) -> usize {
         at += std::mem::replace(count, at);
     }
     for u in 0..sheet.degrees.len() {
-        for (position, &label) in sheet.labels[sheet.cells_of(u)].iter().enumerate() {
+        for (position, &label) in sheet.moved_labels(u).iter().enumerate() {
             let place = &mut counts[usize::from(label)];
             out[*place] = record(4, u, position, 1);
             *place += 1;

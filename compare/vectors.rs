@@ -12,6 +12,8 @@ const OPS: [(u8, &str); 8] = [
     (20, "resize"),
     (21, "poke"),
 ];
+/// How many requests are in the rules of both sides, and so in those of a file they can be held to.
+const LEVEL: u32 = 1;
 const MODULUS: i128 = 4_294_967_291;
 const PRIOR_FILL: u8 = 0xA5;
 
@@ -108,11 +110,11 @@ struct Answer {
     state: u64,
 }
 
-/// None when the file is not of the format.
+/// None when the file is not of the format or of another level.
 pub fn replay<S: Calls>(file: &[u8]) -> Option<Tally> {
     let mut cursor = Cursor(file);
     let mut tally = Tally::default();
-    if cursor.take(8)? != b"ORCLVEC1" || cursor.u32()? != 0 {
+    if cursor.take(8)? != b"ORCLVEC1" || cursor.u32()? != LEVEL {
         return None;
     }
     for case in 0..cursor.u32()? {
