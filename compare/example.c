@@ -8,6 +8,15 @@ static int64_t nodes[1024], labels[1024], edges[4096];
 static uint64_t layout[326], counts[2];
 static int64_t values[4];
 
+/* How many records a sweep has: no label 255 has one. The labels stand behind the n degrees. */
+static size_t sweep_records(void)
+{
+    size_t count = 2 * layout[3] + layout[4] + 1;
+    for (size_t i = 0; i < layout[4]; i++)
+        count -= sheet[layout[1] + i] == 255;
+    return count;
+}
+
 static int refused(const char *call, uint8_t refusal)
 {
     if (refusal != 0)
@@ -23,7 +32,7 @@ int main(int argc, char **argv)
     size_t size = fread(sheet, 1, sizeof sheet, file);
     if (fclose(file) != 0 || refused("read", cirbaldu_read(sheet, size, layout, 326)))
         return 1;
-    size_t n = layout[1], N = layout[4], M = layout[5], sweep = 5 * (2 * layout[3] + N + 1);
+    size_t n = layout[1], N = layout[4], M = layout[5], sweep = 5 * sweep_records();
     if (refused("open", cirbaldu_open(sheet, size, nodes, N, labels, N, edges, M, incumbent, n)))
         return 1;
     if (refused("sweep", cirbaldu_sweep(sheet, size, 0, records, sweep)))

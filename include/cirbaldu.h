@@ -67,9 +67,10 @@ uint8_t cirbaldu_report(const uint8_t *sheet, size_t sheet_len,
                         const uint8_t *incumbent, size_t incumbent_len,
                         int64_t *values, size_t values_len);
 
-/* Writes a sweep, forward (direction 0) or backward (1): a list of 2E + N + 1 records for cirbaldu_run.
+/* Writes a sweep, forward (direction 0) or backward (1): a list of 2E + N - V + 1 records for cirbaldu_run,
+ * where V is how many of the sheet's N labels, the bytes from n on, are 255.
  * Returns the refusal: 1 to 7 for the sheet, 12 for another direction, 8 if out has not exactly
- * 5 times (2E + N + 1) places. When refused, nothing is written. */
+ * 5 times (2E + N - V + 1) places. When refused, nothing is written. */
 uint8_t cirbaldu_sweep(const uint8_t *sheet, size_t sheet_len,
                        uint8_t direction,
                        uint8_t *out, size_t out_len);

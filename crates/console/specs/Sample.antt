@@ -17,7 +17,7 @@ use Rattle.rules.specs.Messages.{toLabel, toEdge, deltas, filled}
 use Rattle.rules.specs.Rounding.{bestFrom, best, free, key, choice, roundBelow, adopt}
 use Rattle.rules.specs.Run.{proceed, rounded, kindOf, records, legalShare, legalEdge, legalPosition, legalMessage, checked, effect, run, runList}
 use Rattle.rules.specs.Calls.{lengthsOk, isMatching, incumbentOk, lentChecks, lentRefusal, runRefusal, runOf, told, reportOf}
-use Rattle.rules.specs.Sample.{sampleRecords}
+use Rattle.rules.specs.Sample.{sampleRecords, both}
 use Rattle.console.specs.Ascii.{ascii}
 use Rattle.console.specs.Decimal.{digitsIn, decimal, signed}
 use Rattle.console.specs.Lines.{line, refusedLine, countLines, keptLines, boundLines, atRecords, stopLine, reportText, textOf}
@@ -34,6 +34,8 @@ runs =
     ∷ record { sheet = sample; list = []; text = "done 0\nstuck 0\nbound 3\ncost none\ngap none\n" }
     ∷ record { sheet = trailerAlone; list = []; text = "done 0\nstuck 0\nbound 0\ncost 0\ngap 0\n" }
     ∷ record { sheet = sample; list = 3 ∷ 0 ∷ 0 ∷ 0 ∷ 64 ∷ 3 ∷ 0 ∷ 0 ∷ 0 ∷ 65 ∷ []; text = "done 1\nstuck 0\nbound 3\ncost none\ngap none\nrefused 12\n" }
+    ∷ record { sheet = both; list = 5 ∷ 0 ∷ 0 ∷ 0 ∷ 0 ∷ []; text = "done 1\nstuck 0\nbound 3\ncost 3\ngap 0\n" }
+    ∷ record { sheet = both; list = 3 ∷ 0 ∷ 1 ∷ 0 ∷ 1 ∷ []; text = "done 0\nstuck 0\nbound 3\ncost none\ngap none\nrefused 12\n" }
     ∷ record { sheet = sample; list = 3 ∷ 0 ∷ []; text = "refused 11\n" }
     ∷ record { sheet = []; list = 3 ∷ 0 ∷ []; text = "refused 1\n" }
     ∷ []
