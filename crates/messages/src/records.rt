@@ -78,7 +78,8 @@ fn legal_position(sheet: &[u8], view: View, starts: &[usize; 64], step: Record) 
     if legal_share(step.share) {
         if u < view.nodes {
             if step.index < degree_of(sheet, u) {
-                return exclusive(label_at(sheet, view, starts[u] + step.index));
+                let label = label_at(sheet, view, starts[u] + step.index);
+                return exclusive(label);
             }
         }
     }
