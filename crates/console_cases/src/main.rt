@@ -52,11 +52,31 @@ fn other_cases() {
 
 // Document 02, wish 1: sheets with the label 255.
 fn vanished_cases() {
-    show_files(b"a run of another implementation with nine 255s", b"0039.sheet", b"0039.records");
-    show_files(b"two nodes take 255", b"vanished.sheet", b"rounding.records");
-    show_files(b"stopped by a record at a 255", b"vanished.sheet", b"vanished.records");
-    show_files(b"255 alone, and no other label", b"vanished-alone.sheet", b"rounding.records");
-    show_files(b"a 255 that is not last", b"vanished-first.sheet", b"rounding.records");
+    show_files(
+        b"a run of another implementation with nine 255s",
+        b"0039.sheet",
+        b"0039.records",
+    );
+    show_files(
+        b"two nodes take 255",
+        b"vanished.sheet",
+        b"rounding.records",
+    );
+    show_files(
+        b"stopped by a record at a 255",
+        b"vanished.sheet",
+        b"vanished.records",
+    );
+    show_files(
+        b"255 alone, and no other label",
+        b"vanished-alone.sheet",
+        b"rounding.records",
+    );
+    show_files(
+        b"a 255 that is not last",
+        b"vanished-first.sheet",
+        b"rounding.records",
+    );
 }
 
 // Sheets and lists at the limits of their lengths and past them. The lists are roundings, so that one that was cut would

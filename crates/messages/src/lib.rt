@@ -26,5 +26,6 @@ pub use reporting::report;
 
 // What reading promises, passed on to the layer above, which names this crate alone.
 pub use instance::Layout;
+pub use instance::exclusive;
 pub use instance::read;
 pub use instance::refusal;

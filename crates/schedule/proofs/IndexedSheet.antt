@@ -1,27 +1,32 @@
--- A sheet that was read and not refused: its edges and its labels, as the indexes have them.
+-- A sheet that was read and not refused: its edges and its labels, as the indexes have them, and how many places have another label than 255.
 -- Assumes nothing.
 use mathlib.Core.Path.{_≡_, sym, ap, ap₂, subst, _∙_}
+use mathlib.Core.Bool.{cond}
 use mathlib.Core.List.{List, map}
-use Prim.Native.Nat.{ℕ, _+_, _*_, _/_, _%_, _≤_, _<_}
+use Prim.Native.Nat.{ℕ, _+_, _-_, _*_, _/_, _%_, _≤_, _<_}
 use native.Mathlib.Nat.{mul-add-div, mul-add-mod-self-left, div-eq-of-lt, mod-eq-of-lt}
 use native.Mathlib.Omega.{arith}
 use lib.ListN.{length, getD, take, drop}
 use Rattle.integers.specs.Places.{range, offset}
+use Rattle.integers.proofs.Places.{length-range}
 use Rattle.instance.specs.Bytes.{byte}
-use Rattle.instance.specs.Instance.{Instance, first, nodeCells}
+use Rattle.instance.specs.Instance.{Instance, exclusive, first, nodeCells}
+use Rattle.instance.specs.declared.reading.Layout.{Layout}
 use Rattle.instance.specs.Sheet.{instanceOf, endsAt}
+use Rattle.instance.specs.Layout.{layoutOf}
 use Rattle.instance.specs.Readable.{Proper, Readable}
 use Rattle.instance.proofs.Readable.{readable}
-use Rattle.instance.proofs.LaidOut.{positions-few}
+use Rattle.instance.proofs.LaidOut.{positions-few, refusal-is, laid-out}
 use Rattle.instance.proofs.Indexes.{labels-indexed, highs-indexed, lows-indexed}
 use Rattle.index.specs.Index.{indexOf, many, held, Indexed}
 use Rattle.index.proofs.Indexed.{many-is}
 use Rattle.schedule.specs.declared.sweep.Counts.{Counts}
-use Rattle.schedule.specs.Sweep.{entry, each, falling, fromLabel, toLower, toHigher, positions, forwardAt, labelAt, backwardAt}
-use Rattle.schedule.specs.Writing.{Rows, Spots, Swept, edgesBy, spotted, forwardBy, backwardBy, labelBy}
-use Rattle.schedule.proofs.WritingLaws.{each-ext}
-use Rattle.schedule.proofs.Lengths.{mem-below, falling-mem}
-use Rattle.schedule.proofs.LabelLaws.{label-list}
+use Rattle.schedule.specs.Sweep.{entry, each, falling, fromLabel, toLower, toHigher, exclusivePositions, forwardAt, labelAt, backwardAt, vanished, sweepRecords, sweepLength}
+use Rattle.schedule.specs.Writing.{Rows, Spots, Nodes, Swept, countsOf, edgesBy, spotted, exclusiveAt, forwardOf, backwardBy, labelBy}
+use Rattle.schedule.proofs.WritingLaws.{each-ext, mem-below, falling-mem}
+use Rattle.schedule.proofs.CountLaws.{offset-ext}
+use Rattle.schedule.proofs.Lengths.{all-exclusive}
+use Rattle.schedule.proofs.LabelLaws.{label-list, exclusive-positions}
 
 -- an index in other words
 indexed-as : {key : ℕ → ℕ} {m : ℕ} {k l : List ℕ} → l ≡ k → Indexed key m k → Indexed key m l
@@ -38,6 +43,12 @@ spot-is spots i u k h e =
     let q : (256 * k + u) % 256 ≡ u = mul-add-mod-self-left 256 k u ∙ mod-eq-of-lt h in
     let d : (256 * k + u) / 256 ≡ k = mul-add-div some k u ∙ ap (_+_ k) (div-eq-of-lt h) ∙ omega arith in
     ap₂ (λ (a b : ℕ). entry 4 a b 1) (ap (λ (x : ℕ). x % 256) e ∙ q) (ap (λ (x : ℕ). x / 256) e ∙ d)
+
+-- the counts that reading answered
+pub handed : (s : List ℕ) {l : Layout} {c : Counts} → l ≡ layoutOf s → l .refusal ≡ 0 → c ≡ countsOf l → Swept s c
+handed s q z e =
+    let d = laid-out s q z in
+    subst (Swept s) (sym e) (record { readable = sym (refusal-is s q) ∙ z; nodes = d .nodes; labels = d .labels; edges = d .edges; positions = d .positions })
 
 module _ {s : List ℕ} {c : Counts} (w : Swept s c) where
   abbrev I : Instance
@@ -75,6 +86,33 @@ module _ {s : List ℕ} {c : Counts} (w : Swept s c) where
 
   pub end-bytes : n + 5 * c .positions + 1 + 2 * c .edges ≤ length s
   end-bytes = omega (arith, w .nodes, w .positions, w .edges, whole .whole)
+
+  -- the degrees, and the labels after them
+  pub nodes-inside : Nodes s n
+  unfolding first instanceOf
+  nodes-inside = record {
+    few = nodes-few;
+    inside = omega (arith, ap (offset (byte s)) (w .nodes), w .nodes, whole .whole);
+    labelled = λ u h. proper .labelled u (omega (arith, w .nodes));
+  }
+
+  -- a node's last label stands ahead of the next node's first
+  exclusive-node : {u : ℕ} → u < n → range 0 (exclusiveAt s n u) ≡ exclusivePositions I u
+  unfolding first instanceOf
+  exclusive-node {u} h =
+      let d = byte s u in
+      let b = nodes-inside .labelled u h in
+      let e : n + offset (byte s) u + d - 1 ≡ I .nodeCount + (first I u + (d - 1)) = omega (arith, w .nodes) in
+      ap (λ (i : ℕ). range 0 (cond (exclusive (byte s i)) d (d - 1))) e ∙ sym (exclusive-positions I proper u (omega (arith, w .nodes)))
+
+  pub exclusive-nodes : offset (exclusiveAt s n) n ≡ nodeCells I - vanished I
+  exclusive-nodes =
+      offset-ext n (exclusiveAt s n) (λ u. length (exclusivePositions I u)) (λ u h. sym (length-range 0 (exclusiveAt s n u)) ∙ ap length (exclusive-node h))
+      ∙ ap (offset (λ u. length (exclusivePositions I u))) (w .nodes) ∙ all-exclusive I
+
+  pub length-is : sweepLength I ≡ 5 * (2 * c .edges + offset (exclusiveAt s n) n + 1)
+  unfolding sweepLength sweepRecords
+  length-is = omega (arith, exclusive-nodes, w .edges)
 
   ends-at : n + 5 * c .positions ≡ endsAt s
   unfolding first instanceOf
@@ -114,17 +152,17 @@ module _ {s : List ℕ} {c : Counts} (w : Swept s c) where
       unfolding toHigher
       many-higher = many-is y u h
 
-      forward-node : forwardBy s lower higher u ≡ forwardAt I u
-      unfolding forwardAt positions instanceOf
-      forward-node = rw (lower-is, higher-is, many-higher)
+      forward-node : u < n → forwardOf s n lower higher u ≡ forwardAt I u
+      unfolding forwardAt
+      forward-node b = rw (lower-is, higher-is, many-higher, exclusive-node b)
 
       backward-node : backwardBy lower higher u ≡ backwardAt I u
       unfolding backwardAt
       backward-node = let z : length (toLower I u) + 0 ≡ length (toLower I u) = omega arith in rw (higher-is, lower-is, many-lower, z)
 
-    pub forward-nodes : each (forwardBy s lower higher) (range 0 n) ≡ each (forwardAt I) (range 0 (I .nodeCount))
+    pub forward-nodes : each (forwardOf s n lower higher) (range 0 n) ≡ each (forwardAt I) (range 0 (I .nodeCount))
     forward-nodes =
-        each-ext (forwardBy s lower higher) (forwardAt I) (range 0 n) (λ u m. let b = mem-below m in let f = nodes-few in forward-node (omega arith))
+        each-ext (forwardOf s n lower higher) (forwardAt I) (range 0 n) (λ u m. let b = mem-below m in let f = nodes-few in forward-node (omega arith) b)
         ∙ ap (λ (k : ℕ). each (forwardAt I) (range 0 k)) (w .nodes)
 
     pub backward-nodes : each (backwardBy lower higher) (falling n) ≡ each (backwardAt I) (falling (I .nodeCount))

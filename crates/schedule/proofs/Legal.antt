@@ -11,10 +11,10 @@ use native.Mathlib.Omega.{arith}
 use borrow.Author.Tests.{eq-eqb, eqb-true, le-leb, lt-ltb}
 use lib.Dec.{eqb}
 use lib.ListN.{length}
-use Rattle.integers.specs.Places.{range, every}
+use Rattle.integers.specs.Places.{range, select, every}
 use Rattle.integers.proofs.Places.{by-cond, and-both, select-mem, every-all, if-true}
 use Rattle.integers.proofs.Ranges.{every-append}
-use Rattle.instance.specs.Instance.{Instance, first}
+use Rattle.instance.specs.Instance.{Instance, exclusive, first}
 use Rattle.instance.specs.Sheet.{instanceOf}
 use Rattle.instance.specs.Readable.{Proper}
 use Rattle.instance.proofs.Readable.{readable}
@@ -25,10 +25,10 @@ use Rattle.rules.specs.Run.{kindOf, Record, records, legalShare, legalEdge, leg
 use Rattle.rules.specs.Calls.{runOf, Call, rules}
 use Rattle.rules.proofs.Calls.{Under}
 use Rattle.rules.proofs.Legal.{legalKind, legal, legal-run-refused}
-use Rattle.schedule.specs.Sweep.{Entry, entry, bytes, each, falling, fromEdges, toEdges, toLabels, fromLabel, rounding, toLower, toHigher, positions, labelled, forwardAt, forward, labelAt, backwardAt, backward, sweep}
+use Rattle.schedule.specs.Sweep.{Entry, entry, bytes, each, falling, fromEdges, toEdges, toLabels, fromLabel, rounding, toLower, toHigher, positions, labelled, exclusivePositions, forwardAt, forward, labelAt, backwardAt, backward, sweep}
 use Rattle.schedule.specs.Written.{sweepRefusal, sweepOf}
-use Rattle.schedule.proofs.WritingLaws.{length-bytes}
-use Rattle.schedule.proofs.Lengths.{mem-below, falling-mem}
+use Rattle.schedule.proofs.WritingLaws.{length-bytes, mem-below, falling-mem}
+use Rattle.schedule.proofs.LabelLaws.{below-exclusive}
 use Rattle.schedule.proofs.Written.{unrefused-readable}
 
 -- ---- five bytes are one record
@@ -79,9 +79,12 @@ module _ (I : Instance) (p : Proper I) where
   unfolding legalEdge
   edge-legal u e r a b h k m = and-both (and-both (and-both (share-legal a b) (lt-ltb u (I .nodeCount) h)) (lt-ltb e (I .edgeCount) k)) m
 
-  position-legal : (u k : ℕ) → u < I .nodeCount → k < I .degree u → legalPosition I u k 1 ≡ true
+  -- a position of u that passes a test, if its label is not 255
+  position-legal : (t : ℕ → Bool) (u : ℕ) → u < I .nodeCount → ((k : ℕ) → t k ≡ true → exclusive (I .label (first I u + k)) ≡ true) → {k : ℕ} → Mem k (select t (range 0 (I .degree u))) → legalPosition I u k 1 ≡ true
   unfolding legalPosition
-  position-legal u k h m = and-both (and-both (share-legal (omega arith) (omega arith)) (lt-ltb u (I .nodeCount) h)) (lt-ltb k (I .degree u) m)
+  position-legal t u h x {k} n =
+      let (m, y) = select-mem t (range 0 (I .degree u)) n in
+      and-both (and-both (and-both (share-legal (omega arith) (omega arith)) (lt-ltb u (I .nodeCount) h)) (lt-ltb k (I .degree u) (mem-below m))) (x k y)
 
   -- an edge with u at one end: at the higher, to a lower node; and at the lower, to a higher
   at-end : (end : ℕ → ℕ) (u : ℕ) → ((e : ℕ) → e < I .edgeCount → end e < I .nodeCount) → ((e : ℕ) → u ≡ end e → (eqb u (I .low e) || eqb u (I .high e)) ≡ true)
@@ -105,14 +108,15 @@ module _ (I : Instance) (p : Proper I) where
   rounding-legal = refl
 
   forwardAt-legal : (u : ℕ) → u < I .nodeCount → every good (forwardAt I u) ≡ true
-  unfolding forwardAt fromEdges toLabels toHigher positions legalKind legalMessage kindOf
+  unfolding forwardAt fromEdges toLabels toHigher exclusivePositions positions legalKind legalMessage kindOf
   forwardAt-legal u h =
       let few = higher-few I p h in
-      both good (map (λ e. entry 2 u e 1) (toLower I u)) (toEdges u (length (toHigher I u) + 1) (toHigher I u) ++ map (λ k. entry 3 u k 1) (range 0 (I .degree u)))
+      let last = map (λ k. entry 3 u k 1) (exclusivePositions I u) in
+      both good (map (λ e. entry 2 u e 1) (toLower I u)) (toEdges u (length (toHigher I u) + 1) (toHigher I u) ++ last)
       (every-all good (λ e. entry 2 u e 1) (toLower I u) (λ e m. at-lower u m 1 (omega arith) (omega arith)))
-      (both good (toEdges u (length (toHigher I u) + 1) (toHigher I u)) (map (λ k. entry 3 u k 1) (range 0 (I .degree u)))
+      (both good (toEdges u (length (toHigher I u) + 1) (toHigher I u)) last
       (every-shares good u (length (toHigher I u) + 1) (toHigher I u) (omega arith) (omega (arith, p .nodesFew)) (λ e r m a b. at-higher u m r a b))
-      (every-all good (λ k. entry 3 u k 1) (range 0 (I .degree u)) (λ k m. position-legal u k h (mem-below m))))
+      (every-all good (λ k. entry 3 u k 1) (exclusivePositions I u) (λ k m. position-legal (λ k. exclusive (I .label (first I u + k))) u h (λ k x. x) m)))
 
   backwardAt-legal : (u : ℕ) → u < I .nodeCount → every good (backwardAt I u) ≡ true
   unfolding backwardAt fromEdges toLower legalKind legalMessage kindOf
@@ -121,12 +125,12 @@ module _ (I : Instance) (p : Proper I) where
       (every-all good (λ e. entry 2 u e 1) (toHigher I u) (λ e m. at-higher u m 1 (omega arith) (omega arith)))
       (every-shares good u (length (toLower I u)) (toLower I u) (omega arith) (omega (arith, lower-few I p u, p .nodesFew)) (λ e r m a b. at-lower u m r a b))
 
-  labelAt-legal : (l : ℕ) → every good (labelAt I l) ≡ true
+  labelAt-legal : (l : ℕ) → l < I .labelCount → every good (labelAt I l) ≡ true
   unfolding labelAt fromLabel labelled positions legalKind legalMessage kindOf
-  labelAt-legal l =
+  labelAt-legal l h =
       every-each good (λ u. map (λ k. entry 4 u k 1) (labelled I l u)) (range 0 (I .nodeCount)) (λ u m.
       every-all good (λ k. entry 4 u k 1) (labelled I l u) (λ k n.
-      position-legal u k (mem-below m) (mem-below (select-mem (λ k. eqb (I .label (first I u + k)) l) (range 0 (I .degree u)) n .0))))
+      position-legal (λ k. eqb (I .label (first I u + k)) l) u (mem-below m) (λ k t. ap exclusive (eqb-true (I .label (first I u + k)) l t) ∙ below-exclusive I p h) n))
 
   forward-legal : every good (forward I) ≡ true
   unfolding forward
@@ -136,7 +140,7 @@ module _ (I : Instance) (p : Proper I) where
   unfolding backward
   backward-legal =
       both good (each (labelAt I) (falling (I .labelCount))) (each (backwardAt I) (falling (I .nodeCount)) ++ rounding)
-      (every-each good (labelAt I) (falling (I .labelCount)) (λ l _. labelAt-legal l))
+      (every-each good (labelAt I) (falling (I .labelCount)) (λ l m. labelAt-legal l (falling-mem (I .labelCount) m)))
       (both good (each (backwardAt I) (falling (I .nodeCount))) rounding
       (every-each good (backwardAt I) (falling (I .nodeCount)) (λ u m. backwardAt-legal u (falling-mem (I .nodeCount) m)))
       rounding-legal)

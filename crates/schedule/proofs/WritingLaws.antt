@@ -2,14 +2,14 @@
 -- Assumes nothing.
 use mathlib.Core.Path.{_≡_, refl, sym, ap, ap₂, subst, _∙_}
 use mathlib.Core.List.{List, [], _∷_, _++_, map, append-nil, append-assoc}
-use mathlib.Core.List.{List·Memᴰ as Mem, List·Memᴰ·head as here, List·Memᴰ·tail as there}
-use Prim.Native.Nat.{ℕ, suc, _+_, _-_, _*_, _/_, _%_, _≤_, _<_}
+use mathlib.Core.List.{List·Memᴰ as Mem, List·Memᴰ·head as here, List·Memᴰ·tail as there, List·Memᴰ·not-nil as not-nil}
+use Prim.Native.Nat.{ℕ, zero, suc, _+_, _-_, _*_, _/_, _%_, _≤_, _<_}
 use native.Mathlib.Numerals.{add-one}
 use native.Mathlib.Omega.{arith}
 use lib.ListN.{length, getD, set, length-append, drop-of-length-le, length-map}
 use lib.Seq.{sets, sets-eq, length-sets}
 use Rattle.integers.specs.Places.{range}
-use Rattle.integers.proofs.Places.{length-range}
+use Rattle.integers.proofs.Places.{range-mem, length-range}
 use Rattle.integers.proofs.Ranges.{range-add}
 use Rattle.index.specs.Index.{many, held}
 use Rattle.index.proofs.Indexed.{length-held}
@@ -182,6 +182,17 @@ pub each-ext : (f g : ℕ → List Entry) (l : List ℕ) → ((i : ℕ) → Mem 
 unfolding each
 each-ext f g [] h = refl
 each-ext f g (i ∷ l) h = ap₂ _++_ (h i (here refl)) (each-ext f g l (λ j m. h j (there m)))
+
+-- ---- what is in a list of numbers below n
+
+pub mem-below : {n i : ℕ} → Mem i (range 0 n) → i < n
+mem-below {n} m = omega (arith, range-mem 0 n m .1)
+
+pub falling-mem : (n : ℕ) {i : ℕ} → Mem i (falling n) → i < n
+unfolding falling
+falling-mem zero m = absurd (not-nil m)
+falling-mem (suc n) (here e) = omega arith
+falling-mem (suc n) (there m) = let h = falling-mem n m in omega arith
 
 -- ---- a row of an index from its j-th thing on
 

@@ -1,4 +1,4 @@
--- The answer of `write_sweep`, case by case.
+-- The answers of `write_sweep` and of `sweep_length`, case by case.
 -- Assumes nothing.
 use mathlib.Core.Path.{_≡_, sym, ap, _∙_}
 use mathlib.Core.Bool.{true, false, cond}
@@ -9,13 +9,15 @@ use borrow.Author.Tests.{eq-eqb, ne-eqb, eqb-true, eqb-false}
 use lib.Dec.{eqb}
 use lib.ListN.{length}
 use Rattle.integers.specs.Checks.{firstFailure}
-use Rattle.integers.proofs.Places.{by-test, if-true, if-false}
+use Rattle.integers.proofs.Places.{by-test, by-cond, if-true, if-false}
 use Rattle.integers.proofs.Checks.{failure-append, passes, fails}
 use Rattle.instance.specs.Instance.{Instance}
 use Rattle.instance.specs.Sheet.{instanceOf, checks, refusalOf}
+use Rattle.instance.proofs.Readable.{readable}
+use Rattle.instance.proofs.LaidOut.{positions-few}
 use Rattle.instance.proofs.Shown.{checks-numbered}
-use Rattle.schedule.specs.Sweep.{bytes, forward, backward, sweep, known, sweepLength}
-use Rattle.schedule.specs.Written.{written, ownChecks, sweepRefusal, sweepOf}
+use Rattle.schedule.specs.Sweep.{bytes, forward, backward, sweep, known, sweepRecords, sweepLength}
+use Rattle.schedule.specs.Written.{written, sweepRoom, ownChecks, sweepRefusal, sweepOf}
 
 pub known-yes : (direction : ℕ) → direction ≤ 1 → known direction ≡ true
 unfolding known
@@ -34,6 +36,24 @@ module _ (I : Instance) {direction : ℕ} where
   pub backward-is : (direction ≡ 0 → ⊥) → sweep I direction ≡ backward I
   unfolding sweep
   backward-is h = if-false (forward I) (backward I) (ne-eqb direction 0 h)
+
+-- how many bytes to lend
+module _ (s : List ℕ) where
+  pub room-none : (refusalOf s ≡ 0 → ⊥) → 0 ≡ sweepRoom s
+  unfolding sweepRoom
+  room-none h = sym (if-false (sweepLength (instanceOf s)) 0 (ne-eqb (refusalOf s) 0 h))
+
+  pub room-is : refusalOf s ≡ 0 → sweepLength (instanceOf s) ≡ sweepRoom s
+  unfolding sweepRoom
+  room-is e = sym (if-true (sweepLength (instanceOf s)) 0 (eq-eqb (refusalOf s) 0 e))
+
+  -- a sweep has at most 1,537 records
+  pub room-few : sweepRoom s ≤ 7_685
+  unfolding sweepRoom sweepLength sweepRecords
+  room-few =
+      by-cond (λ (n : ℕ). n ≤ 7_685) (eqb (refusalOf s) 0)
+      (λ t. let p = readable s (eqb-true (refusalOf s) 0 t) .proper in omega (arith, p .edgesFew, positions-few p))
+      (λ t. omega arith)
 
 module _ (s : List ℕ) (direction : ℕ) (out : List ℕ) where
   abbrev I : Instance

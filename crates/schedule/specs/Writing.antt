@@ -1,12 +1,14 @@
 -- Contracts of the private functions: a buffer in which some records are to stand, one after another, and of which some are still to be written.
 use mathlib.Core.Path.{_≡_}
+use mathlib.Core.Bool.{cond}
 use mathlib.Core.List.{List, [], _++_, map}
-use Prim.Native.Nat.{ℕ, _+_, _*_, _/_, _%_, _≤_, _<_}
+use Prim.Native.Nat.{ℕ, _+_, _-_, _*_, _/_, _%_, _≤_, _<_}
 use lib.ListN.{length, getD, take, drop}
 use lib.Seq.{sets}
 use Rattle.integers.specs.Places.{range, offset}
 use Rattle.instance.specs.Bytes.{byte}
-use Rattle.instance.specs.Instance.{nodeCells}
+use Rattle.instance.specs.declared.reading.Layout.{Layout}
+use Rattle.instance.specs.Instance.{exclusive, nodeCells}
 use Rattle.instance.specs.Sheet.{instanceOf, refusalOf}
 use Rattle.index.specs.Index.{many, held, indexOf}
 use Rattle.schedule.specs.declared.sweep.Counts.{Counts}
@@ -39,9 +41,26 @@ received edges u = fromEdges u (held edges u)
 abbrev pub sent : List ℕ → ℕ → ℕ → List Entry
 sent edges more u = toEdges u (many edges u + more) (held edges u)
 
--- a node's part of each sweep, by its edges to lower and to higher nodes
-abbrev pub forwardBy : List ℕ → List ℕ → List ℕ → ℕ → List Entry
-forwardBy s lower higher u = received lower u ++ (sent higher 1 u ++ toLabels u (range 0 (byte s u)))
+-- how many positions of a node have another label than 255, which only its last can be; `past` is the place after its labels
+abbrev pub exclusiveCount : List ℕ → ℕ → ℕ → ℕ
+exclusiveCount s past degree = cond (exclusive (byte s (past - 1))) degree (degree - 1)
+
+-- the same of node u, where the labels of n nodes follow their degrees
+abbrev pub exclusiveAt : List ℕ → ℕ → ℕ → ℕ
+exclusiveAt s n u = exclusiveCount s (n + offset (byte s) u + byte s u) (byte s u)
+
+-- the degrees and the labels of n nodes lie in a sheet, and each node has a label
+pub record Nodes (s : List ℕ) (n : ℕ) : Type 0 where
+  pub few : n ≤ 64
+  pub inside : n + offset (byte s) n ≤ length s
+  pub labelled : (u : ℕ) → u < n → 1 ≤ byte s u
+
+-- a node's part of each sweep, by its edges to lower and to higher nodes, and of a forward one by how many positions have a record
+abbrev pub forwardBy : ℕ → List ℕ → List ℕ → ℕ → List Entry
+forwardBy positions lower higher u = received lower u ++ (sent higher 1 u ++ toLabels u (range 0 positions))
+
+abbrev pub forwardOf : List ℕ → ℕ → List ℕ → List ℕ → ℕ → List Entry
+forwardOf s n lower higher u = forwardBy (exclusiveAt s n u) lower higher u
 
 abbrev pub backwardBy : List ℕ → List ℕ → ℕ → List Entry
 backwardBy lower higher u = received higher u ++ sent lower 0 u
@@ -72,6 +91,10 @@ pub record Swept (s : List ℕ) (c : Counts) : Type 0 where
   pub labels : c .labels ≡ instanceOf s .labelCount
   pub edges : c .edges ≡ instanceOf s .edgeCount
   pub positions : c .positions ≡ nodeCells (instanceOf s)
+
+-- the counts, of what reading answered
+abbrev pub countsOf : Layout → Counts
+countsOf l = record { nodes = l .nodes; labels = l .labels; edges = l .edges; positions = l .positions }
 
 -- the index of its edges by their lower (0) or by their higher (1) ends, every second byte
 abbrev pub edgesBy : List ℕ → Counts → ℕ → List ℕ

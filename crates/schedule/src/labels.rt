@@ -4,6 +4,7 @@ use crate::row::many;
 use crate::row::thing;
 use index::number;
 use index::wide;
+use messages::exclusive;
 ghost use mathlib.Core.Path.{_≡_};
 ghost use Prim.Native.Nat.{_+_, _*_, _≤_, _<_};
 ghost use lib.ListN.{length};
@@ -11,7 +12,35 @@ ghost use Rattle.integers.specs.Places.{range, offset};
 ghost use Rattle.instance.specs.Bytes.{byte};
 ghost use Rattle.index.specs.Index.{many as manyOf};
 ghost use Rattle.schedule.specs.Sweep.{each, falling, toLabels};
-ghost use Rattle.schedule.specs.Writing.{Wrote, Room, Rows, Marked, Spots, labelBy};
+ghost use Rattle.schedule.specs.Writing.{Wrote, Room, Rows, Marked, Spots, Nodes, exclusiveCount, exclusiveAt, labelBy};
+
+// How many positions of a node have another label than 255, which only its last can be. `past` is the place after its labels.
+pub(crate) fn exclusive_positions(sheet: &[u8], past: usize, degree: usize) -> usize
+    requires { ⌜ (1 ≤ degree) × (1 ≤ past) × (past ≤ length (now sheet)) ⌝ }
+    ensures { λ r. ⌜ r ≡ exclusiveCount (now (sheet .entry)) past degree ⌝ }
+{
+    if exclusive(wide(sheet[past - 1])) {
+        return degree;
+    }
+    degree - 1
+}
+
+// The same of all nodes together, whose labels follow their degrees.
+pub(crate) fn exclusive_places(sheet: &[u8], n: usize) -> usize
+    requires { ⌜ Nodes (now sheet) n ⌝ }
+    ensures { λ r. ⌜ r ≡ offset (exclusiveAt (now (sheet .entry)) n) n ⌝ }
+{
+    let mut sum = 0;
+    let mut past = n;
+    let mut u = 0;
+    while u < n {
+        let degree = wide(sheet[u]);
+        past += degree;
+        sum += exclusive_positions(sheet, past, degree);
+        u += 1;
+    }
+    sum
+}
 
 // Kind 3 with share 1 at each position.
 pub(crate) fn to_labels(degree: usize, u: usize, out: &mut [u8], at: usize) -> usize

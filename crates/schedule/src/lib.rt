@@ -7,4 +7,5 @@ mod put;
 mod row;
 mod sweep;
 
+pub use sweep::sweep_length;
 pub use sweep::write_sweep;

@@ -3,7 +3,7 @@
 use mathlib.Core.Path.{_≡_, sym, ap, _∙_}
 use mathlib.Core.Bool.{cond}
 use mathlib.Core.List.{List, [], _∷_}
-use Prim.Native.Nat.{ℕ, _+_, _*_}
+use Prim.Native.Nat.{ℕ}
 use native.Mathlib.Omega.{arith}
 use borrow.Author.Tests.{eq-eqb, ne-eqb, eqb-true, eqb-false}
 use lib.Dec.{eqb}
@@ -11,23 +11,12 @@ use lib.ListN.{length}
 use Rattle.integers.specs.Checks.{firstFailure}
 use Rattle.integers.proofs.Places.{by-test, if-true, if-false}
 use Rattle.integers.proofs.Checks.{failure-append}
-use Rattle.instance.specs.declared.reading.Layout.{Layout}
 use Rattle.instance.specs.Sheet.{instanceOf, checks, refusalOf}
-use Rattle.instance.specs.Layout.{layoutOf}
-use Rattle.instance.proofs.LaidOut.{laid-out, refusal-is}
 use Rattle.instance.proofs.Shown.{checks-numbered}
-use Rattle.schedule.specs.Sweep.{bytes, sweep, known, sweepRecords, sweepLength}
-use Rattle.schedule.specs.Written.{Written, written, sweepOf}
-use Rattle.schedule.proofs.Written.{unread, unknown, swept}
+use Rattle.schedule.specs.Sweep.{bytes, sweep, known}
+use Rattle.schedule.specs.Written.{Written, written, sweepRoom, sweepOf}
+use Rattle.schedule.proofs.Written.{room-is, unread, unknown, swept}
 use Rattle.sweep.specs.Swept.{refusalFor, sweepBytes}
-
--- ---- the room that a sweep takes
-
-pub sized : (s : List ℕ) {l : Layout} {n : ℕ} → l ≡ layoutOf s → n ≡ 5 * (2 * l .edges + l .positions + 1) → refusalOf s ≡ 0 → n ≡ sweepLength (instanceOf s)
-unfolding sweepLength sweepRecords
-sized s q e h = let d = laid-out s q (refusal-is s q ∙ h) in omega (arith, d .edges, d .positions, e)
-
--- ---- the number and the bytes
 
 module _ (s : List ℕ) (direction : ℕ) where
   number-is : refusalFor s direction ≡ cond (eqb (refusalOf s) 0) (cond (known direction) 0 12) (refusalOf s)
@@ -44,12 +33,12 @@ module _ (s : List ℕ) (direction : ℕ) where
       let k = ap (λ (w : Written). w .refusal) e in
       record { number = k ∙ n; content = λ z. ap (λ (w : Written). w .content) e ∙ c (sym k ∙ z) }
 
-  pub left : {out : List ℕ} {r : ℕ} (lent : List ℕ) → (refusalOf s ≡ 0 → length lent ≡ sweepLength (instanceOf s)) → written out r ≡ sweepOf s direction lent → Left out r
+  pub left : {out : List ℕ} {r : ℕ} (lent : List ℕ) → length lent ≡ sweepRoom s → written out r ≡ sweepOf s direction lent → Left out r
   left lent z e =
       by-test (eqb (refusalOf s) 0)
       (λ t. let h = eqb-true (refusalOf s) 0 t in
       by-test (known direction)
-      (λ k. left-by (bytes (sweep (instanceOf s) direction)) 0 (e ∙ sym (swept s direction lent h k (z h))) (sym (number-is ∙ if-true _ _ t ∙ if-true _ _ k)) (λ _. refl′))
+      (λ k. left-by (bytes (sweep (instanceOf s) direction)) 0 (e ∙ sym (swept s direction lent h k (z ∙ sym (room-is s h)))) (sym (number-is ∙ if-true _ _ t ∙ if-true _ _ k)) (λ _. refl′))
       (λ k. left-by lent 12 (e ∙ sym (unknown s direction lent h k)) (sym (number-is ∙ if-true _ _ t ∙ if-false _ _ k)) (λ o. absurd (omega arith))))
       (λ t. let h = eqb-false (refusalOf s) 0 t in
       left-by lent (refusalOf s) (e ∙ sym (unread s direction lent h)) (sym (number-is ∙ if-false _ _ t)) (λ o. absurd (h o)))

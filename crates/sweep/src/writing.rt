@@ -1,6 +1,6 @@
 // The direction that an argument names, and the sweep at the start of a buffer.
-use instance::read;
 use instance::refusal::NONE;
+use schedule::sweep_length;
 use schedule::write_sweep;
 ghost use mathlib.Core.Path.{_≡_};
 ghost use lib.ListN.{length};
@@ -35,8 +35,7 @@ pub(crate) fn sweep_at_start(sheet: &[u8], direction: u8, out: &mut [u8]) -> Swe
     requires { ⌜ length (now out) ≡ 7_685 ⌝ }
     ensures { λ r. ⌜ Sweeps (now (sheet .entry)) direction (now (out .exit)) (r .refusal) (r .count) ⌝ }
 {
-    let layout = read(sheet);
-    let count = 5 * (2 * layout.edges + layout.positions + 1);
+    let count = sweep_length(sheet);
     let refusal = write_sweep(sheet, direction, &mut out[..count]);
     if refusal == NONE {
         Swept { refusal, count }

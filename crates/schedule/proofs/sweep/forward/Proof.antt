@@ -9,9 +9,9 @@ use Rattle.instance.specs.Instance.{Instance}
 use Rattle.instance.specs.Sheet.{instanceOf}
 use Rattle.index.specs.Index.{Indexed}
 use Rattle.schedule.specs.Sweep.{Entry, each, rounding, forwardAt, forward}
-use Rattle.schedule.specs.Writing.{Room, forwardBy}
+use Rattle.schedule.specs.Writing.{Room, forwardOf}
 use Rattle.schedule.proofs.WritingLaws.{room-as, room-whole, room-left, room-right, writing-for, wrote-append, wrote-all}
-use Rattle.schedule.proofs.IndexedSheet.{nodes-few, node-bytes, higher-indexed, lower-rows, higher-rows, forward-nodes}
+use Rattle.schedule.proofs.IndexedSheet.{nodes-inside, higher-indexed, lower-rows, higher-rows, forward-nodes}
 use borrow.Author.Needs.{needs}
 use Rattle.schedule.proofs.sweep.forward.Statement.{statement}
 use Rattle.schedule.proofs.sweep.forward.Tie as tie
@@ -39,7 +39,7 @@ module _ (x : tie.After-edges-by) where
   higher : Indexed (I start .low) (I start .edgeCount) (x .edges-by .result)
   higher = higher-indexed (start .pre .0) (x .edges-by .ensures)
 
-  lists : each (forwardBy (now (start .args .sheet)) (now (start .args .lower)) (x .edges-by .result)) (range 0 (start .args .counts .nodes)) ≡ nodes start
+  lists : each (forwardOf (now (start .args .sheet)) (start .args .counts .nodes) (now (start .args .lower)) (x .edges-by .result)) (range 0 (start .args .counts .nodes)) ≡ nodes start
   lists = forward-nodes (start .pre .0) (lower start) higher
 
 forward-nodes-requires : tie.Need-forward-nodes-requires
@@ -47,7 +47,7 @@ forward-nodes-requires c κs =
     let x = c .before .before in
     let q = start x in
     let w = q .pre .0 in
-    (lower-rows w (lower q) (higher x), (higher-rows w (lower q) (higher x), ((nodes-few w, node-bytes w), room-as (ap length (sym (lists x))) (room-left (nodes q) rounding (room q)))))
+    (lower-rows w (lower q) (higher x), (higher-rows w (lower q) (higher x), (nodes-inside w, room-as (ap length (sym (lists x))) (room-left (nodes q) rounding (room q)))))
 
 put-requires : tie.Need-put-requires
 unfolding rounding

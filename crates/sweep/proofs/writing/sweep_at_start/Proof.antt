@@ -2,40 +2,35 @@
 -- Assumes nothing.
 use mathlib.Core.Path.{_≡_, sym, _∙_}
 use mathlib.Core.List.{List, _++_}
-use Prim.Native.Nat.{ℕ, _+_, _*_, _≤_}
+use Prim.Native.Nat.{ℕ, _≤_}
 use native.Mathlib.Omega.{arith}
 use lib.ListN.{length, take, drop, length-append}
 use lib.Seq.{length-take-le, take-at}
 use denote.Ref.{now}
-use Rattle.instance.proofs.LaidOut.{Few, few}
-use Rattle.sweep.proofs.SweepLaws.{sized, Left, left, written-all, written-none}
+use Rattle.schedule.proofs.Written.{room-few}
+use Rattle.sweep.proofs.SweepLaws.{Left, left, written-all, written-none}
 use borrow.Author.Needs.{needs}
 use Rattle.sweep.proofs.writing.sweep_at_start.Statement.{statement}
 use Rattle.sweep.proofs.writing.sweep_at_start.Tie as tie
-use Rattle.instance.proofs.read.Reads as read-reads
-use Rattle.schedule.proofs.write_sweep.Reads as write-sweep-reads
 
--- what reading answered is small, so that the longest sweep has room
-small : (p : tie.After-read) → Few (p .read .result)
-small p = few (now (p .before .before .before .args .sheet)) (p .read .ensures)
-
-module _ (p : tie.After-read) where
+module _ (p : tie.After-sweep-length) where
   abbrev start : tie.Start
   start = p .before .before .before
 
   abbrev count : ℕ
-  count = 5 * (2 * p .read .result .edges + p .read .result .positions + 1)
+  count = p .sweep-length .result
 
+  -- the longest sweep has room
   fits : count ≤ length (now (start .args .out))
-  fits = omega (arith, small p, start .pre)
+  fits = omega (arith, p .sweep-length .ensures, room-few (now (start .args .sheet)), start .pre)
 
   part-long : length (take count (now (start .args .out))) ≡ count
   part-long = length-take-le count (now (start .args .out)) fits
 
 -- what was written, and what stands there then
 module _ (w : tie.After-write-sweep) where
-  abbrev known : tie.After-read
-  known = w .before .before .before .before
+  abbrev known : tie.After-sweep-length
+  known = w .before .before
 
   abbrev sheet : List ℕ
   sheet = now (start known .args .sheet)
@@ -50,7 +45,7 @@ module _ (w : tie.After-write-sweep) where
   long = w .write-sweep .kept .1 .1 .0 ∙ part-long known
 
   done : Left sheet (start known .args .direction) list (w .write-sweep .result)
-  done = left sheet (start known .args .direction) (take (count known) (now (start known .args .out))) (sized sheet (known .read .ensures) (part-long known)) (w .write-sweep .ensures)
+  done = left sheet (start known .args .direction) (take (count known) (now (start known .args .out))) (part-long known ∙ known .sweep-length .ensures) (w .write-sweep .ensures)
 
   ahead : take (count known) all ≡ list
   ahead = take-at list (drop (count known) (now (start known .args .out))) (count known) long
@@ -58,23 +53,11 @@ module _ (w : tie.After-write-sweep) where
   room : count known ≤ length all
   room = omega (arith, length-append list (drop (count known) (now (start known .args .out))), long)
 
-mul-count : tie.Need-mul-count
-mul-count c = omega (arith, small (c .before))
-
-add-count : tie.Need-add-count
-add-count c = omega (arith, small (c .before .before))
-
-add-count-2 : tie.Need-add-count-2
-add-count-2 c = omega (arith, small (c .before .before))
-
-mul-count-2 : tie.Need-mul-count-2
-mul-count-2 c = omega (arith, small (c .before .before))
-
 slice-relend-prefix-write-sweep : tie.Need-slice-relend-prefix-write-sweep
-slice-relend-prefix-write-sweep c = fits (c .before .before)
+slice-relend-prefix-write-sweep c = fits c
 
 slice-aggregate-write-sweep : tie.Need-slice-aggregate-write-sweep
-slice-aggregate-write-sweep c = sym (part-long (c .before .before .before))
+slice-aggregate-write-sweep c = sym (part-long (c .before))
 
 returns : tie.Need-returns
 returns c =
@@ -100,10 +83,6 @@ sweep-at-start-spec =
     tie.close
     (tie.spec
     (λ c κs. search needs)
-    mul-count
-    add-count
-    add-count-2
-    mul-count-2
     slice-relend-prefix-write-sweep
     slice-aggregate-write-sweep
     (λ c κs. search needs)
