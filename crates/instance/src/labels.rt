@@ -1,4 +1,4 @@
-// Which labels but one node may take.
+// Which labels no two nodes may take.
 ghost use mathlib.Core.Path.{_≡_};
 ghost use Rattle.instance.specs.Instance.{exclusive};
 

@@ -85,8 +85,8 @@ module _ (I : Instance) where
   unfoldable pub forward : List Entry
   forward = each forwardAt (range 0 (I .nodeCount)) ++ rounding
 
-  -- labels are those below L, 255 is none of them: "labels falling, each label's nodes rising, kind 4 with share 1; then u falling, kind 2 with share 1 from edges to higher nodes, kind 1 to
-  -- edges to lower nodes with shares q, q−1, .. 1, where q is their number; then kind 5"
+  -- "labels falling, each label's nodes rising, kind 4 with share 1; then u falling, kind 2 with share 1 from edges to higher nodes, kind 1 to
+  -- edges to lower nodes with shares q, q−1, .. 1, where q is their number; then kind 5". Labels are those below L; 255 "lies outside L"
   unfoldable pub labelAt : ℕ → List Entry
   labelAt l = each (λ u. fromLabel u (labelled l u)) (range 0 (I .nodeCount))
 
