@@ -1,7 +1,7 @@
 -- The label cost at a 255: no record alters it, whatever it is lent with, so that after an opening it stays 0.
 -- Assumes nothing.
 use mathlib.Core.Path.{_≡_, refl, sym, ap, _∙_}
-use mathlib.Core.Bool.{true, not, cond, _&&_}
+use mathlib.Core.Bool.{true, not, _&&_}
 use mathlib.Core.List.{List, [], _∷_}
 use mathlib.Core.Option.{Option, none, some}
 use Prim.Native.Nat.{ℕ, _+_}
@@ -18,7 +18,7 @@ use Rattle.instance.specs.Sheet.{instanceOf}
 use Rattle.instance.proofs.RisingLabels.{shared-not, vanished-is}
 use Rattle.rules.specs.Costs.{Costs, Buffers, costsOf, inRange, opened}
 use Rattle.rules.specs.Messages.{Message, nodeToEdge, edgeToNode, nodeToLabel, labelToNode, toLabel, toEdge, deltas, plus, filled, shift}
-use Rattle.rules.specs.Rounding.{round, adopt}
+use Rattle.rules.specs.Rounding.{round}
 use Rattle.rules.specs.Run.{Kind, message, rounding, unknown, Record, records, Outcome, refused, done, Ran, proceed, rounded, legalMessage, checked, effect, step, run, runList}
 use Rattle.rules.specs.Calls.{runRefusal, runOf, Call, run as runCall, report, next, rules}
 use Rattle.rules.proofs.Rounding.{adopt-ind}
