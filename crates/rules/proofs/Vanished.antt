@@ -1,6 +1,7 @@
--- The label cost at a 255: no record alters it, whatever it is lent with, so that after an opening it stays 0.
+-- The label cost at a 255: no record alters it, whatever it is lent with, so that after an opening it stays 0; and no amount depends on it.
+-- That it enters neither the bound nor a labelling's cost is said by `bound-alike` and `cost-alike`.
 -- Assumes nothing.
-use mathlib.Core.Path.{_≡_, refl, sym, ap, _∙_}
+use mathlib.Core.Path.{_≡_, refl, sym, ap, ap₂, _∙_}
 use mathlib.Core.Bool.{true, not, _&&_}
 use mathlib.Core.List.{List, [], _∷_}
 use mathlib.Core.Option.{Option, none, some}
@@ -9,18 +10,21 @@ use native.Mathlib.Omega.{arith}
 use borrow.Author.Tests.{eqb-true, ltb-true, ltb-false}
 use lib.Dec.{eqb, ltb}
 use lib.ListN.{length, getD, replicate, length-replicate, getD-replicate, List·getD-eq-default}
-use lib.IntN.{ℤ, pos}
-use Rattle.integers.specs.Places.{tabulate, only}
+use lib.IntN.{ℤ, pos, negℤ}
+use Rattle.integers.specs.Share.{amount}
+use Rattle.integers.specs.Places.{others, tabulate, only}
 use Rattle.integers.proofs.Parts.{linear, add}
-use Rattle.integers.proofs.Places.{by-test, by-cond, length-tabulate, getD-tabulate}
+use Rattle.integers.proofs.Places.{by-test, by-cond, others-mem, map-ext, length-tabulate, getD-tabulate}
 use Rattle.instance.specs.Instance.{Instance, exclusive, first, nodeCells}
 use Rattle.instance.specs.Sheet.{instanceOf}
 use Rattle.instance.proofs.RisingLabels.{shared-not, vanished-is}
-use Rattle.rules.specs.Costs.{Costs, Buffers, costsOf, inRange, opened}
+use Rattle.rules.specs.Places.{labelPlaces}
+use Rattle.rules.specs.Costs.{Costs, Buffers, costsOf, inRange, opened, nodeLeast, edgeLeast}
 use Rattle.rules.specs.Messages.{Message, nodeToEdge, edgeToNode, nodeToLabel, labelToNode, toLabel, toEdge, deltas, plus, filled, shift}
 use Rattle.rules.specs.Rounding.{round}
 use Rattle.rules.specs.Run.{Kind, message, rounding, unknown, Record, records, Outcome, refused, done, Ran, proceed, rounded, legalMessage, checked, effect, step, run, runList}
 use Rattle.rules.specs.Calls.{runRefusal, runOf, Call, run as runCall, report, next, rules}
+use Rattle.rules.proofs.Places.{label-mem}
 use Rattle.rules.proofs.Rounding.{adopt-ind}
 use Rattle.rules.proofs.Run.{legal-position-is}
 
@@ -76,6 +80,24 @@ module _ (I : Instance) (i : ℕ) (v : not (exclusive (I .label i)) ≡ true) wh
             → costsOf (proceed b o (λ b′. run I limit b′ l) .buffers) .label i ≡ costsOf b .label i
         go (refused number) h f = refl
         go (done b′ n) h f = f b′ ∙ h
+
+-- ---- the same costs with other label costs, but for those of exclusive labels
+
+abbrev relabelled : Costs → (ℕ → ℤ) → Costs
+relabelled c l = record { node = c .node; label = l; edge = c .edge }
+
+pub unread : (I : Instance) (c : Costs) (l : ℕ → ℤ) → ((i : ℕ) → exclusive (I .label i) ≡ true → l i ≡ c .label i)
+    → (m : Message) (u k r : ℕ) → legalMessage I m u k r ≡ true → deltas I (relabelled c l) m u k r ≡ deltas I c m u k r
+unfolding legalMessage deltas nodeLeast edgeLeast
+unread I c l same nodeToEdge u e r t = refl
+unread I c l same edgeToNode u e r t = refl
+unread I c l same nodeToLabel u k r t = refl
+unread I c l same labelToNode u k r t =
+    let i = first I u + k in
+    let x = legal-position-is I u k r t .3 in
+    let places = others i (labelPlaces I (I .label i)) in
+    ap₂ (λ (z : ℤ) (rivals : List ℤ). toLabel i (negℤ (amount z (pos 0 ∷ rivals) r))) (same i x)
+    (map-ext l (c .label) places (λ j m. same j (ap exclusive (label-mem I (I .label i) (others-mem i (labelPlaces I (I .label i)) m .0)) ∙ x)))
 
 -- after an opening and any list of calls: "its label cost is left at 0"
 pub left-at-zero : (s : List ℕ) (cs : List Call) (i : ℕ) → not (exclusive (instanceOf s .label i)) ≡ true → costsOf (rules s cs .buffers) .label i ≡ pos 0

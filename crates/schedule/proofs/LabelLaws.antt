@@ -1,7 +1,7 @@
 -- The places that have a label, node by node; and the positions whose label is not 255, which are all of a node's or all but its last.
 -- Assumes nothing.
 use mathlib.Core.Path.{_≡_, refl, sym, ap, ap₂, _∙_}
-use mathlib.Core.Bool.{Bool, true, cond}
+use mathlib.Core.Bool.{Bool, cond}
 use mathlib.Core.List.{_++_, map, map-map, map-append}
 use mathlib.Core.Logic.{⊎-elim}
 use Prim.Native.Nat.{ℕ, zero, suc, _+_, _-_, _<_}
@@ -11,7 +11,7 @@ use Rattle.integers.specs.Places.{range, select, offset}
 use Rattle.integers.proofs.Places.{select-mem, map-ext}
 use Rattle.instance.specs.Instance.{Instance, exclusive, first}
 use Rattle.instance.specs.Readable.{Proper}
-use Rattle.instance.proofs.RisingLabels.{exclusive-is}
+use Rattle.instance.proofs.LaidOut.{below-exclusive}
 use Rattle.index.specs.Index.{having}
 use Rattle.schedule.specs.Sweep.{Entry, each, positions, labelled, exclusivePositions}
 use Rattle.schedule.proofs.WritingLaws.{mem-below, each-next}
@@ -32,14 +32,10 @@ module _ (I : Instance) (l : ℕ) where
       ∙ sym (ap (map g) (select-part t (I .degree) n) ∙ map-append g (having (I .label) l a) (map (λ k. a + k) own))
 
 module _ (I : Instance) (p : Proper I) where
-  -- a label below L is not 255
-  pub below-exclusive : {l : ℕ} → l < I .labelCount → exclusive l ≡ true
-  below-exclusive {l} h = exclusive-is l (λ z. omega (arith, p .labelsFew))
-
   pub exclusive-positions : (u : ℕ) → u < I .nodeCount → exclusivePositions I u ≡ range 0 (cond (exclusive (I .label (first I u + (I .degree u - 1)))) (I .degree u) (I .degree u - 1))
   unfolding exclusivePositions positions
   exclusive-positions u h =
       all-but-last (λ k. exclusive (I .label (first I u + k))) (I .degree u) (p .labelled u h) (λ k b.
-      ⊎-elim (λ (c : I .label (first I u + k) < I .labelCount). below-exclusive c)
+      ⊎-elim (λ (c : I .label (first I u + k) < I .labelCount). below-exclusive p c)
       (λ (c : (I .label (first I u + k) ≡ 255) × (suc k ≡ I .degree u)). absurd (let e = c .1 in omega arith))
       (p .known u k h (omega arith)))

@@ -18,7 +18,7 @@ use Rattle.instance.specs.Instance.{Instance, exclusive, first}
 use Rattle.instance.specs.Sheet.{instanceOf}
 use Rattle.instance.specs.Readable.{Proper}
 use Rattle.instance.proofs.Readable.{readable}
-use Rattle.instance.proofs.LaidOut.{low-inside}
+use Rattle.instance.proofs.LaidOut.{low-inside, below-exclusive}
 use Rattle.instance.proofs.Indexes.{higher-few, lower-few}
 use Rattle.index.specs.Index.{having}
 use Rattle.rules.specs.Run.{kindOf, Record, records, legalShare, legalEdge, legalPosition, legalMessage}
@@ -28,7 +28,6 @@ use Rattle.rules.proofs.Legal.{legalKind, legal, legal-run-refused}
 use Rattle.schedule.specs.Sweep.{Entry, entry, bytes, each, falling, fromEdges, toEdges, toLabels, fromLabel, rounding, toLower, toHigher, positions, labelled, exclusivePositions, forwardAt, forward, labelAt, backwardAt, backward, sweep}
 use Rattle.schedule.specs.Written.{sweepRefusal, sweepOf}
 use Rattle.schedule.proofs.WritingLaws.{length-bytes, mem-below, falling-mem}
-use Rattle.schedule.proofs.LabelLaws.{below-exclusive}
 use Rattle.schedule.proofs.Written.{unrefused-readable}
 
 -- ---- five bytes are one record
@@ -130,7 +129,7 @@ module _ (I : Instance) (p : Proper I) where
   labelAt-legal l h =
       every-each good (λ u. map (λ k. entry 4 u k 1) (labelled I l u)) (range 0 (I .nodeCount)) (λ u m.
       every-all good (λ k. entry 4 u k 1) (labelled I l u) (λ k n.
-      position-legal (λ k. eqb (I .label (first I u + k)) l) u (mem-below m) (λ k t. ap exclusive (eqb-true (I .label (first I u + k)) l t) ∙ below-exclusive I p h) n))
+      position-legal (λ k. eqb (I .label (first I u + k)) l) u (mem-below m) (λ k t. ap exclusive (eqb-true (I .label (first I u + k)) l t) ∙ below-exclusive p h) n))
 
   forward-legal : every good (forward I) ≡ true
   unfolding forward

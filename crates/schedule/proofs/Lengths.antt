@@ -12,13 +12,12 @@ use Rattle.integers.proofs.Places.{by-cond, both-ways, length-range}
 use Rattle.integers.proofs.Ranges.{select-all}
 use Rattle.instance.specs.Instance.{Instance, exclusive, first, nodeCells}
 use Rattle.instance.specs.Readable.{Proper}
-use Rattle.instance.proofs.LaidOut.{low-inside, label-known}
+use Rattle.instance.proofs.LaidOut.{low-inside, label-known, below-exclusive}
 use Rattle.index.specs.Index.{having}
 use Rattle.index.proofs.Lists.{select-ext}
 use Rattle.schedule.specs.Sweep.{Entry, entry, bytes, each, falling, fromEdges, toEdges, toLabels, fromLabel, rounding, toLower, toHigher, positions, labelled, exclusivePositions, forwardAt, forward, labelAt, backwardAt, backward, sweep, vanished, sweepRecords, sweepLength}
 use Rattle.schedule.proofs.WritingLaws.{mem-below, each-next, length-bytes, length-toEdges}
 use Rattle.schedule.proofs.CountLaws.{offset-ext, offset-add, by-value, select-split, by-part}
-use Rattle.schedule.proofs.LabelLaws.{below-exclusive}
 
 -- ---- parts
 
@@ -92,7 +91,7 @@ module _ (I : Instance) where
     -- a place has a label below L if its label is not 255
     known-exclusive : (i : ℕ) → i < nodeCells I → ltb (I .label i) (I .labelCount) ≡ exclusive (I .label i)
     known-exclusive i h =
-        both-ways (ltb (I .label i) (I .labelCount)) (exclusive (I .label i)) (λ t. below-exclusive I p (ltb-true (I .label i) (I .labelCount) t)) (λ x. lt-ltb (I .label i) (I .labelCount) (label-known p i h x))
+        both-ways (ltb (I .label i) (I .labelCount)) (exclusive (I .label i)) (λ t. below-exclusive p (ltb-true (I .label i) (I .labelCount) t)) (λ x. lt-ltb (I .label i) (I .labelCount) (label-known p i h x))
 
     all-labelled : offset (λ l. length (labelAt I l)) (I .labelCount) ≡ nodeCells I - vanished I
     all-labelled =
