@@ -16,14 +16,13 @@ use Rattle.integers.specs.Places.{every, tabulate, total}
 use Rattle.integers.specs.Checks.{below}
 use Rattle.integers.proofs.Parts.{linear, add}
 use Rattle.integers.proofs.Places.{if-true, if-false, length-tabulate, getD-tabulate}
-use Rattle.integers.proofs.Totals.{total-zero, total-ext}
+use Rattle.integers.proofs.Totals.{some-zero}
 use Rattle.integers.proofs.Checks.{Tested, tested-none, tested-more, tested-all, below-fails}
 use Rattle.instance.specs.Instance.{Instance, exclusive, nodeCells, cell}
 use Rattle.instance.specs.Sheet.{instanceOf, refusalOf}
 use Rattle.instance.proofs.LaidOut.{row-inside}
 use Rattle.rules.specs.Costs.{Buffers, noneKept, prices, position, chosen, chosenCell, paid, costOf, priceOf, Labelling}
 use Rattle.rules.specs.Rounding.{free, adopt}
-use Rattle.rules.proofs.Balance.{only-zero}
 use Rattle.rules.specs.Calls.{isMatching, incumbentOk}
 use Rattle.rules.proofs.Calls.{is-matching}
 use Rattle.messages.specs.Seen.{startsOf, tablesOf}
@@ -145,8 +144,7 @@ module _ (J : Instance) where
   unfolding costOf
   price-parts x {a} {b} p q =
       let m = total (J .nodeCount) (λ u. J .nodePrice (chosen J x u)) in
-      let none = total-ext (J .nodeCount) (λ u. paid J (prices J) (chosen J x u)) (λ u. pos 0) (λ u _. only-zero (exclusive (J .label (chosen J x u)))) ∙ total-zero (J .nodeCount) in
-      let z : m +ℤ total (J .nodeCount) (λ u. paid J (prices J) (chosen J x u)) ≡ m = rw none (omega (linear, add m (pos 0))) in
+      let z : m +ℤ total (J .nodeCount) (λ u. paid J (prices J) (chosen J x u)) ≡ m = rw (some-zero (J .nodeCount) (λ u. exclusive (J .label (chosen J x u)))) (omega (linear, add m (pos 0))) in
       ap₂ _+ℤ_ (p ∙ sym z) q
 
 -- ---- bytes copied in turn
