@@ -1,17 +1,19 @@
 -- Messages between one row of node costs and one edge's table of cells: what is given, and both lists once it is given. Document 01, kinds 1 and 2.
 use mathlib.Core.Path.{_≡_}
-use mathlib.Core.Bool.{Bool, cond}
+use mathlib.Core.Bool.{Bool, true, not, cond}
 use mathlib.Core.List.{List, _++_, map}
-use Prim.Native.Nat.{ℕ, _*_, _/_, _%_, _≤_}
+use Prim.Native.Nat.{ℕ, _*_, _-_, _^_, _/_, _%_, _≤_, _<_}
 use lib.Dec.{eqb, ltb}
 use lib.ListN.{length, getD, drop}
 use lib.IntN.{ℤ, pos, negℤ, natAbs, _-ℤ_}
 use lib.Signed.{_≤ℤ_}
-use Rattle.integers.specs.Least.{leastOf}
+use Rattle.integers.specs.Least.{leastFrom, leastOf}
 use Rattle.integers.specs.Share.{shareDown, excess}
 use Rattle.integers.specs.Places.{tabulate, select, range}
 use Rattle.integers.proofs.Ranges.{shifted}
+use Rattle.instance.specs.Instance.{usable}
 use Rattle.rules.specs.Calls.{costLimit}
+use Rattle.messages.specs.Clash.{Rising}
 
 -- where u stands in the cell j: rows for the lower end, columns for the higher
 abbrev pub positionIn : Bool → ℕ → ℕ → ℕ
@@ -21,16 +23,35 @@ positionIn byRow width j = cond byRow (j / width) (j % width)
 unfoldable pub nodeAmounts : List ℤ → ℕ → List ℤ
 nodeAmounts row r = tabulate 16 (λ k. cond (ltb k (length row)) (shareDown (getD row k (pos 0) -ℤ leastOf row) r) (pos 0))
 
--- of n cells those with u at its position k: where they stand, and their costs
-abbrev pub placesAt : Bool → ℕ → ℕ → ℕ → List ℕ
-placesAt byRow width n k = select (λ j. eqb (positionIn byRow width j) k) (range 0 n)
+-- ---- the usable cells (document 02, wish 2)
 
-abbrev pub cellsAt : Bool → ℕ → List ℤ → ℕ → List ℤ
-cellsAt byRow width cells k = map (λ j. getD cells j (pos 0)) (placesAt byRow width (length cells) k)
+-- `own` has the labels of the end that a record names, `other` those of the other end. A table has as many columns as the higher end has labels
+abbrev pub widthOf : Bool → List ℕ → List ℕ → ℕ
+widthOf byRow own other = cond byRow (length other) (length own)
 
--- kind 2 is kind 1 turned round, so the amounts are negated: for each position of u the distance of the least cell there from the least of all
-unfoldable pub edgeAmounts : Bool → ℕ → List ℤ → ℕ → List ℤ
-edgeAmounts byRow width cells r = tabulate 16 (λ k. negℤ (excess (cellsAt byRow width cells k) (leastOf cells) r))
+-- whether the cell j is usable, by the labels that the two ends have there
+abbrev pub usableIn : Bool → List ℕ → List ℕ → ℕ → Bool
+usableIn byRow own other j =
+    let w = widthOf byRow own other in
+    usable (getD own (positionIn byRow w j) 0) (getD other (positionIn (not byRow) w j) 0)
+
+-- of n cells the usable ones, and of those the ones with u at its position k
+abbrev pub usableOf : Bool → List ℕ → List ℕ → ℕ → List ℕ
+usableOf byRow own other n = select (usableIn byRow own other) (range 0 n)
+
+abbrev pub placesAt : Bool → List ℕ → List ℕ → ℕ → ℕ → List ℕ
+placesAt byRow own other n k = select (λ j. eqb (positionIn byRow (widthOf byRow own other) j) k) (usableOf byRow own other n)
+
+-- their costs
+abbrev pub usableCells : Bool → List ℕ → List ℕ → List ℤ → List ℤ
+usableCells byRow own other cells = map (λ j. getD cells j (pos 0)) (usableOf byRow own other (length cells))
+
+abbrev pub cellsAt : Bool → List ℕ → List ℕ → List ℤ → ℕ → List ℤ
+cellsAt byRow own other cells k = map (λ j. getD cells j (pos 0)) (placesAt byRow own other (length cells) k)
+
+-- kind 2 is kind 1 turned round, so the amounts are negated: for each position of u the distance of the least usable cell there from the least of all usable ones, and 0 where there is none
+unfoldable pub edgeAmounts : Bool → List ℕ → List ℕ → List ℤ → ℕ → List ℤ
+edgeAmounts byRow own other cells r = tabulate 16 (λ k. negℤ (excess (cellsAt byRow own other cells k) (leastOf (usableCells byRow own other cells)) r))
 
 -- the amounts negated: what the node's costs receive
 abbrev pub takenOf : List ℤ → List ℤ
@@ -68,6 +89,17 @@ over f n l = tabulate n f ++ drop n l
 abbrev pub movedLine : Bool → ℕ → List ℤ → List ℤ → List ℤ
 movedLine byRow k amounts line = shifted (λ j. getD amounts (cond byRow k j) (pos 0)) line
 
--- the least of each position
-abbrev pub leastAt : Bool → ℕ → List ℤ → ℕ → ℤ
-leastAt byRow width cells k = leastOf (cellsAt byRow width cells k)
+-- above every cost: the least of no cells
+abbrev pub unbounded : ℤ
+unbounded = pos (2 ^ 63 - 1)
+
+-- the least usable cell of each position
+abbrev pub leastAt : Bool → List ℕ → List ℕ → List ℤ → ℕ → ℤ
+leastAt byRow own other cells k = leastFrom unbounded (cellsAt byRow own other cells k)
+
+-- an edge's table with the labels of its ends, which rise; a cell of it is usable
+pub record Ends (byRow : Bool) (own other : List ℕ) (cells : List ℤ) : Type 0 where
+  pub shape : Shape (widthOf byRow own other) (cond byRow (length own) (length other)) cells
+  pub ownRises : Rising own
+  pub otherRises : Rising other
+  pub some : (j : ℕ) × (j < length cells) × (usableIn byRow own other j ≡ true)

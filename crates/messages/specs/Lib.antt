@@ -4,6 +4,7 @@ pub mod Seen
 pub mod Bounds
 pub mod LabelMessage
 pub mod Incumbent
+pub mod Clash
 pub mod EdgeMessage
 pub mod Step
 pub mod Rounded

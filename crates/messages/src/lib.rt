@@ -1,6 +1,7 @@
 // Moving costs: opening, running a list of records, reporting. Document 01, "The costs that move", "Records", "Reporting".
 pub mod answers;
 mod bound;
+mod clash;
 mod edge_message;
 mod edge_record;
 mod filling;

@@ -1,0 +1,49 @@
+// Whether each edge has a usable cell. Document 02, wish 2.
+use crate::labels::usable;
+use index::wide;
+ghost use mathlib.Core.Path.{_≡_};
+ghost use mathlib.Core.Bool.{not};
+ghost use Prim.Native.Nat.{_<_};
+ghost use Rattle.instance.specs.Instance.{first};
+ghost use Rattle.instance.specs.Sheet.{instanceOf, noneUsable, usableOk};
+ghost use Rattle.instance.specs.Passes.{LabelsBegun, UsableAsked};
+
+// The first label of node `u`.
+fn first_label(sheet: &[u8], n: usize, starts: &[usize; 64], u: usize) -> usize
+    requires { ⌜ LabelsBegun (now sheet) n (now starts) × (u < instanceOf (now sheet) .nodeCount) ⌝ }
+    ensures { λ r. ⌜ r ≡ instanceOf (now (sheet .entry)) .label (first (instanceOf (now (sheet .entry))) u) ⌝ }
+{
+    wide(sheet[n + starts[u]])
+}
+
+// Whether edge `e` has one. Of an end with two labels one is not the other end's first, so that only two ends of one label each may have none.
+fn edge_usable(sheet: &[u8], n: usize, at: usize, starts: &[usize; 64], e: usize) -> bool
+    requires { ⌜ UsableAsked (now sheet) n at (now starts) × (e < instanceOf (now sheet) .edgeCount) ⌝ }
+    ensures { λ r. ⌜ r ≡ not (noneUsable (now (sheet .entry)) e) ⌝ }
+{
+    let u = wide(sheet[at + 2 * e]);
+    let v = wide(sheet[at + 2 * e + 1]);
+    let low = first_label(sheet, n, starts, u);
+    let high = first_label(sheet, n, starts, v);
+    (1 < sheet[u]) | (1 < sheet[v]) | usable(low, high)
+}
+
+// Whether each does. It does not stop at the first that does not.
+pub(crate) fn edges_usable(
+    sheet: &[u8],
+    n: usize,
+    at: usize,
+    edges: usize,
+    starts: &[usize; 64],
+) -> bool
+    requires { ⌜ UsableAsked (now sheet) n at (now starts) × (edges ≡ instanceOf (now sheet) .edgeCount) ⌝ }
+    ensures { λ r. ⌜ r ≡ usableOk (now (sheet .entry)) ⌝ }
+{
+    let mut ok = true;
+    let mut e = 0;
+    while e < edges {
+        ok = ok & edge_usable(sheet, n, at, starts, e);
+        e += 1;
+    }
+    ok
+}
