@@ -31,6 +31,11 @@ pub shared-usable : (l m : ℕ) → not (exclusive l) ≡ true → usable l m �
 unfolding usable
 shared-usable l m e = right-true (not (eqb l m)) e
 
+pub usable-sym : (l m : ℕ) → usable l m ≡ usable m l
+usable-sym l m =
+    by-test (eqb l m) (λ t. let e : l ≡ m = eqb-true l m t in ap₂ usable e (sym e))
+    (λ t. let d : l ≡ m → ⊥ = eqb-false l m t in distinct-usable l m d ∙ sym (distinct-usable m l (λ e. d (sym e))))
+
 -- ---- an edge whose ends have the labels f, a in all, and g, b in all
 
 module _ (f g : ℕ → ℕ) {a b : ℕ} (ha : 1 ≤ a) (hb : 1 ≤ b) (rf : 1 < a → f 0 < f 1) (rg : 1 < b → g 0 < g 1) where

@@ -1,7 +1,7 @@
--- The parts of the lent costs: rows of nodes and tables of edges.
+-- The parts of the lent costs, rows of nodes and tables of edges, and the bound as the sum over them.
 -- Assumes nothing.
 use mathlib.Core.Path.{_≡_, sym, ap, _∙_}
-use mathlib.Core.Bool.{Bool, true, false}
+use mathlib.Core.Bool.{true}
 use mathlib.Core.List.{List, [], map}
 use Prim.Native.Nat.{ℕ, _+_, _*_, _≤_, _<_}
 use native.Mathlib.Omega.{arith}
@@ -24,15 +24,16 @@ use Rattle.integers.proofs.Ranges.{range-part}
 use Rattle.instance.specs.Instance.{Instance, first, nodeCells, tableSize, table}
 use Rattle.instance.specs.Sheet.{instanceOf}
 use Rattle.instance.specs.Readable.{Proper}
-use Rattle.instance.proofs.LaidOut.{row-inside, table-inside, table-some}
+use Rattle.instance.proofs.LaidOut.{row-inside}
 use Rattle.rules.specs.Calls.{costLimit}
-use Rattle.rules.specs.Places.{nodePlaces, labelPlaces, edgePlaces}
+use Rattle.rules.specs.Places.{nodePlaces, labelPlaces}
 use Rattle.rules.specs.Costs.{Buffers, costsOf, nodeLeast, edgeLeast, labelLeast}
 use Rattle.messages.specs.declared.view.View.{View}
 use Rattle.messages.specs.Lent.{lent, Fits, NodeFits, EdgeFits}
 use Rattle.messages.specs.Seen.{Viewed}
-use Rattle.messages.specs.Bounds.{countOf, sizeOf, partLeast, labelBelow, leastLabels}
+use Rattle.messages.specs.Bounds.{rowLeast, tableLeast, labelBelow, leastLabels}
 use Rattle.messages.proofs.SheetLaws.{proper}
+use Rattle.messages.proofs.EndLaws.{usable-cells}
 use Rattle.messages.proofs.SumLaws.{Parts}
 use Rattle.messages.proofs.LabelLaws.{leasts-at}
 
@@ -43,26 +44,21 @@ module _ {s : List ℕ} {v : View} (w : Viewed s v) where
   good : Proper I
   good = proper s (w .readable)
 
-  -- each node has a cost and each edge a cell
-  some : (ofEdges : Bool) (k : ℕ) → k < countOf I ofEdges → 1 ≤ sizeOf I ofEdges k
-  some true k h = table-some good h
-  some false k h = good .labelled k h
+  pub labels-few : v .labels ≤ 64
+  labels-few = omega (arith, w .labels, good .labelsFew)
 
-  pub few : (ofEdges : Bool) → countOf I ofEdges ≤ 256
-  few true = good .edgesFew
-  few false = omega (arith, good .nodesFew)
-
-  pub parts-of : (ofEdges : Bool) {count : ℕ} → count ≡ countOf I ofEdges → {costs : List ℤ} → Fits (offset (sizeOf I ofEdges) count) costs → Parts (sizeOf I ofEdges) costs count
-  parts-of ofEdges e f = record { long = f .size; some = λ k h. some ofEdges k (omega arith); within = f .range }
-
-  -- the sizes in the code's words
-  pub node-parts : {costs : List ℤ} → NodeFits s costs → Fits (offset (sizeOf I false) (v .nodes)) costs
+  -- the parts of the lent costs
+  pub node-parts : {costs : List ℤ} → NodeFits s costs → Parts (I .degree) costs (v .nodes)
   unfolding first
-  node-parts f = record { size = f .size ∙ ap (offset (I .degree)) (sym (w .nodes)); range = f .range }
+  node-parts f = record { long = f .size ∙ ap (offset (I .degree)) (sym (w .nodes)); within = f .range }
 
-  pub edge-parts : {costs : List ℤ} → EdgeFits s costs → Fits (offset (sizeOf I true) (v .edges)) costs
+  pub edge-parts : {costs : List ℤ} → EdgeFits s costs → Parts (tableSize I) costs (v .edges)
   unfolding table
-  edge-parts f = record { size = f .size ∙ ap (offset (tableSize I)) (sym (w .edges)); range = f .range }
+  edge-parts f = record { long = f .size ∙ ap (offset (tableSize I)) (sym (w .edges)); within = f .range }
+
+  -- each node has a cost
+  pub row-some : {u : ℕ} → u < v .nodes → 1 ≤ I .degree u
+  row-some {u} h = good .labelled u (omega (arith, w .nodes))
 
 -- ---- the whole bound
 
@@ -73,19 +69,18 @@ module _ {s : List ℕ} {v : View} (w : Viewed s v) {nodes labels edges : List �
   abbrev J : Instance
   J = instanceOf s
 
-  pub by-node : total (v .nodes) (partLeast (sizeOf J false) nodes) ≡ total (J .nodeCount) (nodeLeast J (costsOf buffers))
-  unfolding nodeLeast nodePlaces first
+  pub by-node : total (v .nodes) (rowLeast J nodes) ≡ total (J .nodeCount) (nodeLeast J (costsOf buffers))
+  unfolding nodeLeast nodePlaces
   by-node =
-      ap (λ (m : ℕ). total m (partLeast (sizeOf J false) nodes)) (w .nodes)
-      ∙ total-ext (J .nodeCount) (partLeast (sizeOf J false) nodes) (nodeLeast J (costsOf buffers))
+      ap (λ (m : ℕ). total m (rowLeast J nodes)) (w .nodes)
+      ∙ total-ext (J .nodeCount) (rowLeast J nodes) (nodeLeast J (costsOf buffers))
       (λ u h. ap leastOf (sym (range-part nodes (pos 0) (first J u) (J .degree u) (omega (arith, fn .size, row-inside J h)))))
 
-  pub by-edge : total (v .edges) (partLeast (sizeOf J true) edges) ≡ total (J .edgeCount) (edgeLeast J (costsOf buffers))
-  unfolding edgeLeast edgePlaces table
+  pub by-edge : total (v .edges) (tableLeast s edges) ≡ total (J .edgeCount) (edgeLeast J (costsOf buffers))
+  unfolding edgeLeast
   by-edge =
-      ap (λ (m : ℕ). total m (partLeast (sizeOf J true) edges)) (w .edges)
-      ∙ total-ext (J .edgeCount) (partLeast (sizeOf J true) edges) (edgeLeast J (costsOf buffers))
-      (λ k h. ap leastOf (sym (range-part edges (pos 0) (table J k) (tableSize J k) (omega (arith, fe .size, table-inside J h)))))
+      ap (λ (m : ℕ). total m (tableLeast s edges)) (w .edges)
+      ∙ total-ext (J .edgeCount) (tableLeast s edges) (edgeLeast J (costsOf buffers)) (λ e h. ap leastOf (usable-cells s (w .readable) h edges (fe .size) true))
 
   pub by-label : total (v .labels) (λ l. getD (leastLabels J labels (nodeCells J)) l (pos 0)) ≡ total (J .labelCount) (labelLeast J (costsOf buffers))
   unfolding labelLeast labelPlaces

@@ -1,30 +1,30 @@
 -- Records of kinds 1 and 2: the amounts by position are the rules' amounts by place, so that what the code leaves of a row and a table is what the rules say.
 -- Assumes nothing.
-use mathlib.Core.Path.{_≡_, refl, sym, ap, ap₂, _∙_}
+use mathlib.Core.Path.{_≡_, refl, sym, ap, ap₂, _∙_, subst}
 use mathlib.Core.Bool.{Bool, true, false, cond, _&&_}
-use mathlib.Core.List.{List, _∷_, _++_, map}
-use mathlib.Core.Logic.{_⊎_, ⊎-elim}
-use Prim.Native.Nat.{ℕ, zero, suc, _+_, _-_, _*_, _/_, _%_, _^_, _≤_, _<_}
-use native.Mathlib.Nat.{div-lt-iff-lt-mul, mod-lt}
+use mathlib.Core.List.{List, _++_, map}
+use mathlib.Core.Logic.{_⊎_}
+use Prim.Native.Nat.{ℕ, _+_, _-_, _*_, _^_, _≤_, _<_}
 use native.Mathlib.Omega.{arith}
-use borrow.Author.Tests.{eq-eqb, eqb-true, eqb-false, lt-ltb}
+use borrow.Author.Tests.{lt-ltb}
 use lib.Dec.{eqb, ltb}
 use lib.ListN.{length, getD, take, drop}
 use lib.IntN.{ℤ, pos, negℤ, _-ℤ_}
 use Rattle.integers.specs.Least.{leastOf}
 use Rattle.integers.specs.Share.{shareDown, excess}
 use Rattle.integers.specs.Sum.{Within}
-use Rattle.integers.specs.Places.{range, select, every}
+use Rattle.integers.specs.Places.{select, every}
 use Rattle.integers.specs.Checks.{within}
 use Rattle.integers.specs.Rows.{part}
-use Rattle.integers.proofs.Places.{by-cond, both-ways, of-cond, if-true, getD-tabulate}
-use Rattle.integers.proofs.Ranges.{range-part, shifted-ext}
+use Rattle.integers.proofs.Places.{by-cond, of-cond, if-true, select-mem, getD-tabulate}
+use Rattle.integers.proofs.Ranges.{range-part, eqb-same, select-map, shifted-ext}
 use Rattle.integers.proofs.Rows.{length-part, getD-part, within-part, part-kept}
+use Rattle.index.proofs.Lists.{select-ext}
 use Rattle.instance.specs.Instance.{Instance, first, nodeCells, tableSize, table, edgeCells}
-use Rattle.instance.specs.Sheet.{instanceOf}
+use Rattle.instance.specs.Sheet.{instanceOf, refusalOf}
 use Rattle.instance.specs.Readable.{Proper}
 use Rattle.instance.proofs.LaidOut.{positions-few, row-inside, table-inside, low-inside}
-use Rattle.rules.specs.Places.{endPlace, endPlaces, nodePlaces, edgePlaces}
+use Rattle.rules.specs.Places.{endPlace, endPlaces, nodePlaces}
 use Rattle.rules.specs.Costs.{Buffers, costsOf, inRange, Sized, nodeLeast, edgeLeast}
 use Rattle.rules.specs.Messages.{nodeToEdge, edgeToNode, toEdge, deltas, shift}
 use Rattle.rules.specs.Run.{refused, done, checked}
@@ -32,10 +32,12 @@ use Rattle.rules.specs.Calls.{costLimit}
 use Rattle.rules.proofs.Bridge.{moved-edge, touched-edge}
 use Rattle.messages.specs.declared.view.View.{View}
 use Rattle.messages.specs.Lent.{lent}
+use Rattle.messages.specs.Seen.{labelsOf}
 use Rattle.messages.specs.Step.{Settled, settle, settled}
-use Rattle.messages.specs.EdgeMessage.{positionIn, nodeAmounts, cellsAt, edgeAmounts, movedRow, movedCells}
-use Rattle.messages.specs.EdgeRecord.{EdgeMove, edgeMove, edgeAmount, givenRow, givenCells, movedBy, edgeMoved, EdgeLegal, Joined, amountsOf, partsMoved}
+use Rattle.messages.specs.EdgeMessage.{positionIn, nodeAmounts, widthOf, usableOf, usableCells, cellsAt, edgeAmounts, movedRow, movedCells, Shape, Ends}
+use Rattle.messages.specs.EdgeRecord.{EdgeMove, edgeMove, edgeAmount, givenRow, givenCells, movedBy, edgeMoved, EdgeLegal, Joined, Between, amountsOf, partsMoved}
 use Rattle.messages.proofs.SheetLaws.{proper, start-is, table-is}
+use Rattle.messages.proofs.EndLaws.{end-is, end-below, labels-length, width-is, usable-places, cells-length, cells-at, usable-below, usable-cells, shape-of, ends-of}
 use Rattle.messages.proofs.EdgeLaws.{node-within, edge-within}
 
 -- the buffers once both lists are replaced, and what is answered
@@ -43,55 +45,24 @@ abbrev pub edgeSettled : Buffers → EdgeMove → Settled
 edgeSettled b m = settle (lent (m .nodes) (b .labels) (m .edges) (b .incumbent)) 0 (m .refusal)
 
 -- no amount passes twice the limit
-pub amounts-within : {row cells : List ℤ} {width height : ℕ} → Joined row cells width height → (turned byRow : Bool) (r : ℕ) → Within (2 ^ 41) (amountsOf turned byRow width row cells r)
-amounts-within {row} {cells} {width} j true byRow r = edge-within byRow width cells r (j .cellRange)
-amounts-within {row} {cells} {width} j false byRow r = node-within row r (j .rowRange)
+pub amounts-within : {row cells : List ℤ} {width height : ℕ} → Joined row cells width height → (turned byRow : Bool) (low high : List ℕ) (r : ℕ) → Within (2 ^ 41) (amountsOf turned byRow low high row cells r)
+amounts-within {row} {cells} j true byRow low high r = edge-within byRow (cond byRow low high) (cond byRow high low) cells r (j .cellRange)
+amounts-within {row} {cells} j false byRow low high r = node-within row r (j .rowRange)
 
 -- the row from a to b and the table from c to d put back
 abbrev pub putBack : List ℤ → List ℤ → ℕ → ℕ → ℕ → ℕ → EdgeMove → EdgeMove
 putBack nodes edges a b c d m = edgeMove (m .refusal) (take a nodes ++ (m .nodes ++ drop b nodes)) (take c edges ++ (m .edges ++ drop d edges))
 
--- ---- the costs at some places of a part are those at the places of the list
+-- ---- the amounts by position are the amounts by place
 
-select-shift : (f g : ℕ → ℤ) (t v : ℕ → Bool) (T a n : ℕ) → ((j : ℕ) → j < a + n → f j ≡ g (T + j)) → ((j : ℕ) → j < a + n → t j ≡ v (T + j))
-    → map f (select t (range a n)) ≡ map g (select v (range (T + a) n))
-unfolding select range
-select-shift f g t v T a zero h k = refl
-select-shift f g t v T a (suc n) h k =
-    let e : T + suc a ≡ suc (T + a) = omega arith in
-    rw (k a (omega arith)) (more (v (T + a)) (select-shift f g t v T (suc a) n (λ j l. h j (omega arith)) (λ j l. k j (omega arith)) ∙ ap (λ (i : ℕ). map g (select v (range i n))) e))
-  where
-    more : (b : Bool) → map f (select t (range (suc a) n)) ≡ map g (select v (range (suc (T + a)) n))
-        → map f (cond b (a ∷ select t (range (suc a) n)) (select t (range (suc a) n))) ≡ map g (cond b ((T + a) ∷ select v (range (suc (T + a)) n)) (select v (range (suc (T + a)) n)))
-    more true s = ap₂ (λ (x : ℤ) (l : List ℤ). x ∷ l) (h a (omega arith)) s
-    more false s = s
+module _ (s : List ℕ) (readable : refusalOf s ≡ 0) where
+  abbrev I : Instance
+  I = instanceOf s
 
-same-place : (a j k : ℕ) → eqb j k ≡ eqb (a + j) (a + k)
-same-place a j k =
-    both-ways (eqb j k) (eqb (a + j) (a + k)) (λ e. eq-eqb (a + j) (a + k) (ap (_+_ a) (eqb-true j k e)))
-    (λ e. let q : a + j ≡ a + k = eqb-true (a + j) (a + k) e in eq-eqb j k (omega arith))
+  abbrev p : Proper I
+  p = proper s readable
 
-module _ (I : Instance) where
-  -- ---- where u stands in the cell j of the table: at a position of its own
-
-  end-is : (e u j : ℕ) → endPlace I e u (table I e + j) ≡ first I u + positionIn (eqb u (I .low e)) (I .degree (I .high e)) j
-  unfolding endPlace
-  end-is e u j =
-      let z : table I e + j - table I e ≡ j = omega arith in
-      ap (λ (i : ℕ). first I u + cond (eqb u (I .low e)) (i / I .degree (I .high e)) (i % I .degree (I .high e))) z
-
-  end-below : Proper I → {e : ℕ} → e < I .edgeCount → {u : ℕ} → (u ≡ I .low e) ⊎ (u ≡ I .high e) → (j : ℕ) → j < tableSize I e
-      → positionIn (eqb u (I .low e)) (I .degree (I .high e)) j < I .degree u
-  unfolding tableSize
-  end-below p {e} he {u} t j h =
-      let w = p .labelled (I .high e) (p .inside e he) in
-      by-cond (λ (k : ℕ). k < I .degree u) (eqb u (I .low e))
-      (λ q. let z : u ≡ I .low e = eqb-true u (I .low e) q in rw z (div-lt-iff-lt-mul w .1 h))
-      (λ q. ⊎-elim (λ (z : u ≡ I .low e). absurd (eqb-false u (I .low e) q z)) (λ (z : u ≡ I .high e). rw z (mod-lt j w)) t)
-
-  -- ---- the amounts by position are the amounts by place
-
-  module _ (nodes edges : List ℤ) (p : Proper I) (ln : length nodes ≡ nodeCells I) (le : length edges ≡ edgeCells I) {u e : ℕ} (hu : u < I .nodeCount) (he : e < I .edgeCount) (r : ℕ) where
+  module _ (nodes edges : List ℤ) (ln : length nodes ≡ nodeCells I) (le : length edges ≡ edgeCells I) {u e : ℕ} (hu : u < I .nodeCount) (he : e < I .edgeCount) (r : ℕ) where
     abbrev row : List ℤ
     row = part nodes (first I u) (I .degree u)
 
@@ -107,14 +78,15 @@ module _ (I : Instance) where
     row-fits : first I u + I .degree u ≤ length nodes
     row-fits = omega (arith, row-inside I hu)
 
-    cells-fit : table I e + tableSize I e ≤ length edges
-    cells-fit = omega (arith, table-inside I he)
-
     row-length : length row ≡ I .degree u
     row-length = length-part nodes (first I u) (I .degree u) row-fits
 
-    cells-length : length cells ≡ tableSize I e
-    cells-length = length-part edges (table I e) (tableSize I e) cells-fit
+    -- the labels of the end u and of the other one
+    abbrev own : List ℕ
+    own = cond byRow (labelsOf s (I .low e)) (labelsOf s (I .high e))
+
+    abbrev other : List ℕ
+    other = cond byRow (labelsOf s (I .high e)) (labelsOf s (I .low e))
 
     node-amount : (k : ℕ) → k < I .degree u → getD (nodeAmounts row r) k (pos 0) ≡ edgeAmount I nodes edges false u e r (first I u + k)
     unfolding nodeAmounts edgeAmount nodePlaces
@@ -124,28 +96,36 @@ module _ (I : Instance) where
         ∙ if-true (shareDown (getD row k (pos 0) -ℤ leastOf row) r) (pos 0) (lt-ltb k (length row) (omega (arith, row-length)))
         ∙ ap₂ (λ (x y : ℤ). shareDown (x -ℤ y) r) (getD-part nodes (first I u) (I .degree u) k (pos 0) h) (ap leastOf (sym (range-part nodes (pos 0) (first I u) (I .degree u) row-fits)))
 
-    cell-amount : (k : ℕ) → k < I .degree u → getD (edgeAmounts byRow width cells r) k (pos 0) ≡ edgeAmount I nodes edges true u e r (first I u + k)
-    unfolding edgeAmounts edgeAmount endPlaces edgePlaces
-    cell-amount k h =
-        let t : ℕ → Bool = (λ j. eqb (positionIn byRow width j) k) in
+    -- the usable cells with u at its position k
+    cells-there : (k : ℕ) → cellsAt byRow own other cells k ≡ map (λ j. getD edges j (pos 0)) (endPlaces I e u (first I u + k))
+    unfolding endPlaces
+    cells-there k =
+        let T = table I e in
+        let n = tableSize I e in
+        let t : ℕ → Bool = (λ j. eqb (positionIn byRow (widthOf byRow own other) j) k) in
         let v : ℕ → Bool = (λ j. eqb (endPlace I e u j) (first I u + k)) in
         let f : ℕ → ℤ = (λ j. getD cells j (pos 0)) in
         let g : ℕ → ℤ = (λ j. getD edges j (pos 0)) in
-        let T = table I e in
-        let n = tableSize I e in
-        let z : T + 0 ≡ T = omega arith in
-        let s : cellsAt byRow width cells k ≡ map g (select v (range T n)) =
-        ap (λ (m : ℕ). map f (select t (range 0 m))) cells-length
-        ∙ select-shift f g t v T 0 n (λ j l. getD-part edges T n j (pos 0) (omega arith))
-        (λ j l. same-place (first I u) (positionIn byRow width j) k ∙ ap (λ (i : ℕ). eqb i (first I u + k)) (sym (end-is e u j)))
-        ∙ ap (λ (i : ℕ). map g (select v (range i n))) z in
-        getD-tabulate 16 (λ k. negℤ (excess (cellsAt byRow width cells k) (leastOf cells) r)) k (pos 0) (omega (arith, p .few u hu))
-        ∙ ap₂ (λ (l : List ℤ) (x : ℤ). negℤ (excess l x r)) s (ap leastOf (sym (range-part edges (pos 0) T n cells-fit)))
+        let l = usableOf byRow own other n in
+        let same : (j : ℕ) → t j ≡ v (T + j) = (λ j.
+        ap (λ (w : ℕ). eqb (positionIn byRow w j) k) (width-is s readable he byRow)
+        ∙ eqb-same (positionIn byRow width j) k (first I u + positionIn byRow width j) (first I u + k) (ap (λ (i : ℕ). first I u + i)) (λ z. omega arith)
+        ∙ ap (λ (i : ℕ). eqb i (first I u + k)) (sym (end-is I e u j))) in
+        ap (λ (m : ℕ). map f (select t (usableOf byRow own other m))) (cells-length s readable he edges le)
+        ∙ ap (map f) (select-ext t (λ j. v (T + j)) l (λ j _. same j))
+        ∙ cells-at s readable he edges le (select (λ j. v (T + j)) l) (λ j m. usable-below s readable he byRow j (select-mem (λ j. v (T + j)) l m .0))
+        ∙ ap (map g) (sym (select-map v (λ j. T + j) l) ∙ ap (select v) (sym (usable-places s readable he byRow)))
+
+    cell-amount : (k : ℕ) → k < I .degree u → getD (edgeAmounts byRow own other cells r) k (pos 0) ≡ edgeAmount I nodes edges true u e r (first I u + k)
+    unfolding edgeAmounts edgeAmount
+    cell-amount k h =
+        getD-tabulate 16 (λ k. negℤ (excess (cellsAt byRow own other cells k) (leastOf (usableCells byRow own other cells)) r)) k (pos 0) (omega (arith, p .few u hu))
+        ∙ ap₂ (λ (l : List ℤ) (x : ℤ). negℤ (excess l x r)) (cells-there k) (ap leastOf (usable-cells s readable he edges le byRow))
 
     -- kind 1 or kind 2
     module _ (turned : Bool) where
       abbrev amounts : List ℤ
-      amounts = amountsOf turned byRow width row cells r
+      amounts = amountsOf turned byRow (labelsOf s (I .low e)) (labelsOf s (I .high e)) row cells r
 
       abbrev given : ℕ → ℤ
       given = edgeAmount I nodes edges turned u e r
@@ -161,7 +141,7 @@ module _ (I : Instance) where
       cells-are : (u ≡ I .low e) ⊎ (u ≡ I .high e) → movedCells byRow width amounts cells ≡ givenCells I nodes edges u e given
       cells-are t =
           shifted-ext (λ j. getD amounts (positionIn byRow width j) (pos 0)) (λ j. given (endPlace I e u (table I e + j))) cells
-          (λ j h. amount-at (positionIn byRow width j) (end-below p he t j (omega (arith, cells-length))) ∙ ap given (sym (end-is e u j)))
+          (λ j h. amount-at (positionIn byRow width j) (end-below I p he t j (omega (arith, cells-length s readable he edges le))) ∙ ap given (sym (end-is I e u j)))
 
       -- what the code leaves
       parts-are : (limit : ℕ) → (u ≡ I .low e) ⊎ (u ≡ I .high e)
@@ -176,8 +156,9 @@ module _ (I : Instance) where
           let l = cells-are t j in
           cond (every (within limit) k && every (within limit) l) (put (edgeMove 0 k l)) (edgeMove 13 (part-kept a (I .degree u) nodes j) (part-kept c (tableSize I e) edges j)))
 
-  -- ---- what the rules say of such a record
+-- ---- what the rules say of such a record
 
+module _ (I : Instance) where
   module _ (limit : ℕ) {b : Buffers} (z : Sized I b) (h : inRange limit b ≡ true) {u e : ℕ} (hu : u < I .nodeCount) (he : e < I .edgeCount) where
     settled-by : (p : ℕ → ℤ) → settled b (checked I limit (shift (toEdge I u e p) b)) ≡ edgeSettled b (movedBy I (b .nodes) (b .edges) limit u e p)
     unfolding checked movedBy
@@ -214,67 +195,81 @@ module _ {s : List ℕ} {v : View} {starts tables : List ℕ} {nodes edges : Lis
   pub legal-edge : e < 256
   legal-edge = omega (arith, g .edge, sound .edgesFew)
 
-  -- the numbers that the code reads
-  module _ {low height width deg : ℕ} (el : low ≡ J .low e) (et : height ≡ J .degree (J .low e)) (ew : width ≡ J .degree (J .high e)) (ed : deg ≡ J .degree u) where
+  -- what the code reads
+  module _ {lo deg : ℕ} {low high : List ℕ} (el : lo ≡ J .low e) (es : low ≡ labelsOf s (J .low e)) (eh : high ≡ labelsOf s (J .high e)) (ed : deg ≡ J .degree u) where
     abbrev a : ℕ
     a = getD starts u 0
 
     abbrev c : ℕ
     c = getD tables e 0
 
+    abbrev readable : refusalOf s ≡ 0
+    readable = g .seen .viewed .readable
+
     ea : a ≡ first J u
-    ea = start-is s (g .seen .begun) (g .seen .viewed .readable) (g .node)
+    ea = start-is s (g .seen .begun) readable (g .node)
 
     ec : c ≡ table J e
-    ec = table-is s (g .seen .tabled) (g .seen .viewed .readable) (g .edge)
+    ec = table-is s (g .seen .tabled) readable (g .edge)
 
-    size : height * width ≡ tableSize J e
+    ew : length high ≡ J .degree (J .high e)
+    ew = ap length eh ∙ labels-length s readable (sound .inside e (g .edge))
+
+    et : length low ≡ J .degree (J .low e)
+    et = ap length es ∙ labels-length s readable (low-inside sound (g .edge))
+
+    size : length low * length high ≡ tableSize J e
     unfolding tableSize
     size = ap₂ _*_ et ew
 
     pub row-ends : a + deg ≤ length nodes
     row-ends = omega (arith, ea, row-inside J (g .node), g .nodeCosts .size)
 
-    pub table-ends : c + height * width ≤ length edges
+    pub table-ends : c + length low * length high ≤ length edges
     table-ends = omega (arith, ec, size, table-inside J (g .edge), g .edgeCosts .size)
 
     pub row-room : a + deg ≤ 1_024
     row-room = omega (arith, row-ends, positions-few sound, g .nodeCosts .size)
 
-    pub table-room : c + height * width ≤ 4_096
+    pub table-room : c + length low * length high ≤ 4_096
     table-room = omega (arith, table-ends, sound .cellsFew, g .edgeCosts .size)
 
     row-size : a + deg - a ≡ deg
     row-size = omega arith
 
-    table-size : c + height * width - c ≡ height * width
+    table-size : c + length low * length high - c ≡ length low * length high
     table-size = omega arith
 
-    pub legal-joined : Joined (part nodes a (a + deg - a)) (part edges c (c + height * width - c)) width height
+    abbrev cut : List ℤ
+    cut = part edges c (c + length low * length high - c)
+
+    cut-length : length cut ≡ tableSize J e
+    cut-length = length-part edges c (c + length low * length high - c) (omega (arith, table-ends)) ∙ table-size ∙ size
+
+    pub legal-joined : Joined (part nodes a (a + deg - a)) cut (length high) (length low)
     legal-joined =
         let n = length-part nodes a (a + deg - a) (omega (arith, row-ends)) in
         record {
           some = omega (arith, sound .labelled u (g .node));
           few = omega (arith, sound .few u (g .node));
-          shape = record {
-            wide = omega (arith, ew, sound .labelled (J .high e) (sound .inside e (g .edge)));
-            narrow = omega (arith, ew, sound .few (J .high e) (sound .inside e (g .edge)));
-            high = omega (arith, et, sound .labelled (J .low e) (low-inside sound (g .edge)));
-            low = omega (arith, et, sound .few (J .low e) (low-inside sound (g .edge)));
-            size = length-part edges c (c + height * width - c) (omega (arith, table-ends)) ∙ table-size;
-          };
+          shape = subst (λ (w : ℕ). Shape w (length low) cut) (sym ew) (subst (λ (h : ℕ). Shape (J .degree (J .high e)) h cut) (sym et) (shape-of s readable (g .edge) cut cut-length));
           rowRange = within-part costLimit a (a + deg - a) nodes (g .nodeCosts .range);
-          cellRange = within-part costLimit c (c + height * width - c) edges (g .edgeCosts .range);
+          cellRange = within-part costLimit c (c + length low * length high - c) edges (g .edgeCosts .range);
         }
 
+    pub legal-between : Between low high cut
+    legal-between b =
+        subst (λ (x : List ℕ). Ends b (cond b x high) (cond b high x) cut) (sym es)
+        (subst (λ (y : List ℕ). Ends b (cond b (labelsOf s (J .low e)) y) (cond b y (labelsOf s (J .low e))) cut) (sym eh) (ends-of s readable (g .edge) cut cut-length b))
+
     pub legal-moved : (limit : ℕ) (turned : Bool)
-        → putBack nodes edges a (a + deg) c (c + height * width)
-        (partsMoved limit (amountsOf turned (eqb u low) width (part nodes a (a + deg - a)) (part edges c (c + height * width - c)) r) (part nodes a (a + deg - a)) (part edges c (c + height * width - c)) (eqb u low) width)
+        → putBack nodes edges a (a + deg) c (c + length low * length high)
+        (partsMoved limit (amountsOf turned (eqb u lo) low high (part nodes a (a + deg - a)) cut r) (part nodes a (a + deg - a)) cut (eqb u lo) (length high))
         ≡ edgeMoved J nodes edges limit turned u e r
     legal-moved limit turned =
         let sb = row-size ∙ ed in
         let sd = table-size ∙ size in
         (λ j. let row = part nodes (ea j) (sb j) in
         let cells = part edges (ec j) (sd j) in
-        putBack nodes edges (ea j) (ea j + ed j) (ec j) (ec j + size j) (partsMoved limit (amountsOf turned (eqb u (el j)) (ew j) row cells r) row cells (eqb u (el j)) (ew j)))
-        ∙ parts-are J nodes edges sound (g .nodeCosts .size) (g .edgeCosts .size) (g .node) (g .edge) r turned limit (g .touches)
+        putBack nodes edges (ea j) (ea j + ed j) (ec j) (ec j + size j) (partsMoved limit (amountsOf turned (eqb u (el j)) (es j) (eh j) row cells r) row cells (eqb u (el j)) (ew j)))
+        ∙ parts-are s readable nodes edges (g .nodeCosts .size) (g .edgeCosts .size) (g .node) (g .edge) r turned limit (g .touches)

@@ -50,7 +50,7 @@ module _ {s : List ℕ} {at u k share : ℕ} (q : PlaceAsked s at u k share) {l 
   unfolding nodePlaces
   node-given =
       ap₂ (λ (x : ℤ) (rivals : List ℤ). amount x rivals share) (getD-part l at (I .degree u) k (pos 0) (q .position))
-      (sym (others-part l (pos 0) at (I .degree u) k row-in (q .position))
+      (sym (others-part l (pos 0) at (I .degree u) k row-in)
       ∙ ap (λ (a : ℕ). map (λ j. getD l j (pos 0)) (others (at + k) (range a (I .degree u)))) (q .begins))
 
 module _ (I : Instance) (l : List ℤ) (h : Within costLimit l) where

@@ -1,13 +1,14 @@
 -- The least of a row as four running minima side by side find it.
 -- Assumes nothing.
-use mathlib.Core.Path.{_≡_, sym, ap, ap₂, _∙_}
+use mathlib.Core.Path.{_≡_, refl, sym, ap, ap₂, _∙_}
 use mathlib.Core.List.{List, [], _∷_}
-use Prim.Native.Nat.{ℕ, _+_, _≤_, _<_}
+use Prim.Native.Nat.{ℕ, zero, suc, _+_, _≤_, _<_}
 use native.Mathlib.Nat.{not-suc-le-zero}
 use native.Mathlib.Omega.{arith}
 use lib.ListN.{length, getD, drop}
+use lib.Seq.{getD-drop}
 use lib.IntN.{ℤ, pos}
-use Rattle.integers.specs.Least.{minℤ, leastFrom, leastOf}
+use Rattle.integers.specs.Least.{minℤ, leastFrom, leastOf, without}
 use Rattle.integers.proofs.Order.{le-refl, min-eq-left, min-comm}
 use Rattle.integers.proofs.Least.{min-left-comm, least-step, least-min}
 
@@ -69,3 +70,12 @@ pub least-whole : (l : List ℤ) (d : ℤ) → 0 < length l → leastFrom (getD 
 unfolding leastFrom leastOf
 least-whole [] d h = absurd (not-suc-le-zero h)
 least-whole (x ∷ l) d h = sym (least-min x x l) ∙ ap (λ (z : ℤ). leastFrom z l) (min-self x)
+
+-- the first of all but one
+pub first-but-first : (l : List ℤ) (k : ℕ) (d : ℤ) → k ≡ 0 → getD l 1 d ≡ getD (without l k) 0 d
+first-but-first l k d e = sym (ap (λ (i : ℕ). getD (without l i) 0 d) e ∙ getD-drop 1 l 0 d)
+
+pub first-but-later : (l : List ℤ) (k : ℕ) (d : ℤ) → (k ≡ 0 → ⊥) → getD l 0 d ≡ getD (without l k) 0 d
+first-but-later l zero d h = absurd (h refl)
+first-but-later [] (suc k) d h = refl
+first-but-later (x ∷ l) (suc k) d h = refl

@@ -3,6 +3,9 @@ pub mod RowLaws
 pub mod ExcessLaws
 pub mod LeastLaws
 pub mod SheetLaws
+pub mod ClashLaws
+pub mod UsableLeast
+pub mod EndLaws
 pub mod SumLaws
 pub mod BoundLaws
 pub mod LabelLaws
@@ -11,6 +14,7 @@ pub mod UnusedLaws
 pub mod IncumbentLaws
 pub mod OverLaws
 pub mod EdgeLaws
+pub mod UsableLaws
 pub mod RivalLaws
 pub mod KeyLaws
 pub mod ChoiceLaws

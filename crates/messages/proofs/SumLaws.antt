@@ -1,4 +1,4 @@
--- Sums that a loop adds up: of the leasts of the parts of a list, and of a table's entries.
+-- Sums that a loop adds up: of one term for each part of a list, and of a table's entries.
 -- Assumes nothing.
 use mathlib.Core.Path.{_≡_, refl, sym, ap, ap₂, _∙_}
 use mathlib.Core.List.{List}
@@ -10,7 +10,6 @@ use lib.ListN.{length}
 use lib.IntN.{ℤ, pos, natAbs, _+ℤ_}
 use mir.Syntax.{w64}
 use mir.Val.{SFits}
-use Rattle.integers.specs.Least.{leastOf}
 use Rattle.integers.specs.Sum.{Within}
 use Rattle.integers.specs.Rows.{part}
 use Rattle.integers.specs.Places.{total, offset}
@@ -19,8 +18,6 @@ use Rattle.integers.proofs.Sum.{abs-add}
 use Rattle.integers.proofs.Rows.{length-part, within-part}
 use Rattle.integers.proofs.Totals.{offset-le, offset-more, offset-none}
 use Rattle.rules.specs.Calls.{costLimit}
-use Rattle.messages.specs.Bounds.{partLeast}
-use Rattle.messages.proofs.RowLaws.{least-of-within}
 
 -- ---- a sum of f over the places below u, each term within k
 
@@ -40,50 +37,44 @@ module _ {k : ℕ} {f : ℕ → ℤ} {sum : ℤ} {u : ℕ} (a : Added k f sum u)
   unfolding total
   added-more e = record { is = rw (add-one u) (ap₂ _+ℤ_ (a .is) e); small = omega (arith, abs-add sum x, a .small, add-mul u 1 k) }
 
--- ---- the leasts of the parts of one list, of the sizes z
+-- ---- one term for each part of a list, the parts being of the sizes z
 
--- parts that fill the list, each with some place
+-- parts that fill a list
 pub record Parts (z : ℕ → ℕ) (l : List ℤ) (count : ℕ) : Type 0 where
   pub long : length l ≡ offset z count
-  pub some : (u : ℕ) → u < count → 1 ≤ z u
   pub within : Within costLimit l
 
 -- after u parts, the next begins at `at`
-pub record Summed (z : ℕ → ℕ) (l : List ℤ) (count : ℕ) (sum : ℤ) (at u : ℕ) : Type 0 where
+pub record Summed (z : ℕ → ℕ) (f : ℕ → ℤ) (count : ℕ) (sum : ℤ) (at u : ℕ) : Type 0 where
   pub upto : u ≤ count
   pub place : at ≡ offset z u
-  pub added : Added costLimit (partLeast z l) sum u
+  pub added : Added costLimit f sum u
 
-pub summed-none : (z : ℕ → ℕ) (l : List ℤ) (count : ℕ) → Summed z l count (pos 0) 0 0
-summed-none z l count = record { upto = omega arith; place = sym (offset-none z); added = added-none costLimit (partLeast z l) }
+pub summed-none : (z : ℕ → ℕ) (f : ℕ → ℤ) (count : ℕ) → Summed z f count (pos 0) 0 0
+summed-none z f count = record { upto = omega arith; place = sym (offset-none z); added = added-none costLimit f }
 
-module _ {z : ℕ → ℕ} {l : List ℤ} {count : ℕ} (p : Parts z l count) {sum : ℤ} {at u : ℕ} (s : Summed z l count sum at u) (h : u < count) (size to : ℕ) (e : size ≡ z u) (t : to ≡ at + size) where
-  pub part-inside : to ≤ length l
-  part-inside = omega (arith, s .place, offset-le z u count h, p .long)
+module _ {z : ℕ → ℕ} {f : ℕ → ℤ} {count : ℕ} {sum : ℤ} {at u : ℕ} (s : Summed z f count sum at u) (h : u < count) (size : ℕ) (e : size ≡ z u) where
+  -- the part from `at` on
+  module _ {l : List ℤ} (p : Parts z l count) where
+    pub part-inside : at + size ≤ length l
+    part-inside = omega (arith, s .place, offset-le z u count h, p .long)
 
-  pub part-some : 0 < length (part l at (to - at))
-  part-some =
-      let d : to - at ≡ z u = omega arith in
-      let n = length-part l at (to - at) (omega (arith, part-inside)) in
-      omega (arith, p .some u h)
+    pub part-is : part l at (at + size - at) ≡ part l (offset z u) (z u)
+    part-is = let d : at + size - at ≡ z u = omega arith in ap₂ (λ (a n : ℕ). part l a n) (s .place) d
 
-  least-is : leastOf (part l at (to - at)) ≡ partLeast z l u
-  least-is =
-      let d : to - at ≡ z u = omega arith in
-      ap₂ (λ (a n : ℕ). leastOf (part l a n)) (s .place) d
+    pub part-length : length (part l at (at + size - at)) ≡ z u
+    part-length = let d : at + size - at ≡ z u = omega arith in length-part l at (at + size - at) (omega (arith, part-inside)) ∙ d
 
-  least-small : natAbs (leastOf (part l at (to - at))) ≤ costLimit
-  least-small = least-of-within costLimit (part l at (to - at)) (within-part costLimit at (to - at) l (p .within))
+    pub part-range : Within costLimit (part l at (at + size - at))
+    part-range = within-part costLimit at (at + size - at) l (p .within)
 
-  pub summed-fits : count ≤ 1_024 → SFits w64 (sum +ℤ leastOf (part l at (to - at)))
-  summed-fits g = added-fits (s .added) (leastOf (part l at (to - at))) least-small (omega arith) (omega arith)
+  -- its term
+  module _ (x : ℤ) (small : natAbs x ≤ costLimit) where
+    pub summed-fits : count ≤ 1_024 → SFits w64 (sum +ℤ x)
+    summed-fits g = added-fits (s .added) x small (omega arith) (omega arith)
 
-  pub summed-more : Summed z l count (sum +ℤ leastOf (part l at (to - at))) to (u + 1)
-  summed-more = record {
-    upto = omega arith;
-    place = omega (arith, s .place, offset-more z u);
-    added = added-more (s .added) (leastOf (part l at (to - at))) least-small least-is;
-  }
+    pub summed-more : x ≡ f u → Summed z f count (sum +ℤ x) (at + size) (u + 1)
+    summed-more q = record { upto = omega arith; place = omega (arith, s .place, offset-more z u); added = added-more (s .added) x small q }
 
 -- all of them
 pub added-all : {k : ℕ} {f : ℕ → ℤ} {sum : ℤ} {u count : ℕ} → Added k f sum u → u ≤ count → count ≤ u → (sum ≡ total count f) × (natAbs sum ≤ count * k)

@@ -1,5 +1,5 @@
 -- The least cost of a node and of an edge as parts of the lent buffers.
-use mathlib.Core.Bool.{Bool, cond}
+use mathlib.Core.Bool.{true}
 use mathlib.Core.List.{List, map}
 use Prim.Native.Nat.{ℕ}
 use lib.Dec.{eqb}
@@ -7,19 +7,21 @@ use lib.ListN.{getD}
 use lib.IntN.{ℤ, pos}
 use Rattle.integers.specs.Least.{leastFrom, leastOf}
 use Rattle.integers.specs.Rows.{part}
-use Rattle.integers.specs.Places.{range, select, tabulate, offset}
-use Rattle.instance.specs.Instance.{Instance, tableSize}
+use Rattle.integers.specs.Places.{range, select, tabulate}
+use Rattle.instance.specs.Instance.{Instance, first, tableSize, table}
+use Rattle.instance.specs.Sheet.{instanceOf}
+use Rattle.messages.specs.Seen.{labelsOf}
+use Rattle.messages.specs.EdgeMessage.{usableCells}
 
--- how many nodes there are, or edges, and how many costs each has
-abbrev pub countOf : Instance → Bool → ℕ
-countOf I ofEdges = cond ofEdges (I .edgeCount) (I .nodeCount)
+-- the least cost of node u
+abbrev pub rowLeast : Instance → List ℤ → ℕ → ℤ
+rowLeast I nodes u = leastOf (part nodes (first I u) (I .degree u))
 
-abbrev pub sizeOf : Instance → Bool → ℕ → ℕ
-sizeOf I ofEdges k = cond ofEdges (tableSize I k) (I .degree k)
-
--- the least of the k-th part of a list of parts of the sizes z
-abbrev pub partLeast : (ℕ → ℕ) → List ℤ → ℕ → ℤ
-partLeast z l k = leastOf (part l (offset z k) (z k))
+-- the least usable cell of edge e
+abbrev pub tableLeast : List ℕ → List ℤ → ℕ → ℤ
+tableLeast s edges e =
+    let I = instanceOf s in
+    leastOf (usableCells true (labelsOf s (I .low e)) (labelsOf s (I .high e)) (part edges (table I e) (tableSize I e)))
 
 -- for each label the least of 0 and its costs among the first i places
 abbrev pub labelBelow : Instance → List ℤ → ℕ → ℕ → ℤ

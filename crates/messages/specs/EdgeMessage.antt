@@ -2,14 +2,15 @@
 use mathlib.Core.Path.{_≡_}
 use mathlib.Core.Bool.{Bool, true, not, cond}
 use mathlib.Core.List.{List, _++_, map}
-use Prim.Native.Nat.{ℕ, _*_, _-_, _^_, _/_, _%_, _≤_, _<_}
+use Prim.Native.Nat.{ℕ, _+_, _*_, _-_, _^_, _/_, _%_, _≤_, _<_}
 use lib.Dec.{eqb, ltb}
 use lib.ListN.{length, getD, drop}
 use lib.IntN.{ℤ, pos, negℤ, natAbs, _-ℤ_}
-use lib.Signed.{_≤ℤ_}
+use lib.Signed.{_≤ℤ_, ltZ}
 use Rattle.integers.specs.Least.{leastFrom, leastOf}
 use Rattle.integers.specs.Share.{shareDown, excess}
 use Rattle.integers.specs.Places.{tabulate, select, range}
+use Rattle.integers.specs.Rows.{part}
 use Rattle.integers.proofs.Ranges.{shifted}
 use Rattle.instance.specs.Instance.{usable}
 use Rattle.rules.specs.Calls.{costLimit}
@@ -93,9 +94,17 @@ movedLine byRow k amounts line = shifted (λ j. getD amounts (cond byRow k j) (p
 abbrev pub unbounded : ℤ
 unbounded = pos (2 ^ 63 - 1)
 
+-- the cells at a position of an end, usable or not: of the lower end a row, of the higher a column
+abbrev pub lineAt : Bool → ℕ → ℕ → List ℤ → ℕ → List ℤ
+lineAt byRow width height cells k = cond byRow (part cells (k * width) width) (tabulate height (λ r. getD cells (width * r + k) (pos 0)))
+
 -- the least usable cell of each position
 abbrev pub leastAt : Bool → List ℕ → List ℕ → List ℤ → ℕ → ℤ
 leastAt byRow own other cells k = leastFrom unbounded (cellsAt byRow own other cells k)
+
+-- what such a least gives down to the least of all, turned round: 0 of no cells
+unfoldable pub turnedLeast : ℤ → ℤ → ℕ → ℤ
+turnedLeast cost low r = cond (ltZ cost unbounded) (negℤ (shareDown (cost -ℤ low) r)) (pos 0)
 
 -- an edge's table with the labels of its ends, which rise; a cell of it is usable
 pub record Ends (byRow : Bool) (own other : List ℕ) (cells : List ℤ) : Type 0 where

@@ -15,12 +15,12 @@ use Rattle.integers.specs.Rows.{part}
 use Rattle.integers.proofs.Ranges.{shifted}
 use Rattle.instance.specs.Instance.{Instance, first, tableSize, table}
 use Rattle.instance.specs.Sheet.{instanceOf}
-use Rattle.rules.specs.Places.{endPlace, endPlaces, nodePlaces, edgePlaces}
+use Rattle.rules.specs.Places.{endPlace, endPlaces, nodePlaces, usablePlaces}
 use Rattle.rules.specs.Calls.{costLimit}
 use Rattle.messages.specs.declared.view.View.{View}
 use Rattle.messages.specs.Lent.{NodeFits, EdgeFits}
 use Rattle.messages.specs.Seen.{Seen}
-use Rattle.messages.specs.EdgeMessage.{nodeAmounts, edgeAmounts, movedRow, movedCells, Shape}
+use Rattle.messages.specs.EdgeMessage.{nodeAmounts, edgeAmounts, movedRow, movedCells, Shape, Ends}
 
 -- node costs and edge costs that a move leaves, with its refusal: 0, or 13 where a cost would pass the limit and nothing is written
 pub record EdgeMove : Type 0 where
@@ -36,7 +36,7 @@ module _ (I : Instance) (nodes edges : List ℤ) where
   unfoldable pub edgeAmount : Bool → ℕ → ℕ → ℕ → ℕ → ℤ
   edgeAmount turned u e r i =
       cond turned
-      (negℤ (excess (map (λ j. getD edges j (pos 0)) (endPlaces I e u i)) (leastOf (map (λ j. getD edges j (pos 0)) (edgePlaces I e))) r))
+      (negℤ (excess (map (λ j. getD edges j (pos 0)) (endPlaces I e u i)) (leastOf (map (λ j. getD edges j (pos 0)) (usablePlaces I e))) r))
       (shareDown (getD nodes i (pos 0) -ℤ leastOf (map (λ j. getD nodes j (pos 0)) (nodePlaces I u))) r)
 
   -- the costs of node u once p of each place is given away, and the cells of edge e once each has received it
@@ -79,9 +79,13 @@ pub record Joined (row cells : List ℤ) (width height : ℕ) : Type 0 where
   pub rowRange : Within costLimit row
   pub cellRange : Within costLimit cells
 
+-- the labels of the two ends with it, whichever of them a record names
+abbrev pub Between : List ℕ → List ℕ → List ℤ → Type 0
+Between low high cells = (byRow : Bool) → Ends byRow (cond byRow low high) (cond byRow high low) cells
+
 -- what each position gives to the cells
-abbrev pub amountsOf : Bool → Bool → ℕ → List ℤ → List ℤ → ℕ → List ℤ
-amountsOf turned byRow width row cells r = cond turned (edgeAmounts byRow width cells r) (nodeAmounts row r)
+abbrev pub amountsOf : Bool → Bool → List ℕ → List ℕ → List ℤ → List ℤ → ℕ → List ℤ
+amountsOf turned byRow low high row cells r = cond turned (edgeAmounts byRow (cond byRow low high) (cond byRow high low) cells r) (nodeAmounts row r)
 
 -- whether all stay within the limit
 abbrev pub fitParts : ℕ → List ℤ → Bool → ℕ → List ℤ → List ℤ → Bool

@@ -2,6 +2,7 @@
 use mathlib.Core.Path.{_≡_}
 use mathlib.Core.List.{List}
 use Prim.Native.Nat.{ℕ, _+_, _*_, _≤_}
+use Rattle.integers.specs.Rows.{part}
 use Rattle.integers.specs.Checks.{padded}
 use Rattle.instance.specs.Instance.{first, table}
 use Rattle.instance.specs.Sheet.{instanceOf, nodePricesAt, endsAt, edgePricesAt, refusalOf}
@@ -43,3 +44,7 @@ pub record Seen (s : List ℕ) (v : View) (starts tables : List ℕ) : Type 0 wh
   pub viewed : Viewed s v
   pub begun : starts ≡ startsOf s
   pub tabled : tables ≡ tablesOf s
+
+-- the labels of node u, a part of the sheet
+abbrev pub labelsOf : List ℕ → ℕ → List ℕ
+labelsOf s u = part s (instanceOf s .nodeCount + first (instanceOf s) u) (instanceOf s .degree u)

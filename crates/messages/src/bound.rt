@@ -1,53 +1,87 @@
-// The bound: the sum of each node's least cost, each edge's least cell, and for each label the least of 0 and its label costs.
+// The bound: the sum of each node's least cost, each edge's least usable cell, and for each label the least of 0 and its label costs.
 use crate::rows::least_of;
 use crate::rows::plus;
 use crate::rows::smaller;
+use crate::usable::usable_least;
 use crate::view::View;
 use crate::view::degree_of;
 use crate::view::high_end;
 use crate::view::label_at;
+use crate::view::labels_of;
 use crate::view::low_end;
 ghost use mathlib.Core.Path.{_≡_};
+ghost use mathlib.Core.Bool.{true};
 ghost use mathlib.Core.List.{[]};
 ghost use Prim.Native.Nat.{_*_, _≤_, _<_};
 ghost use lib.ListN.{getD};
 ghost use lib.IntN.{pos, natAbs};
 ghost use Rattle.integers.specs.Sum.{Within};
-ghost use Rattle.integers.specs.Places.{total, offset};
+ghost use Rattle.integers.specs.Least.{leastOf};
+ghost use Rattle.integers.specs.Places.{total};
 ghost use Rattle.instance.specs.Sheet.{instanceOf};
-ghost use Rattle.instance.specs.Instance.{nodeCells};
+ghost use Rattle.instance.specs.Instance.{nodeCells, tableSize};
 ghost use Rattle.rules.specs.Held.{boundIn};
 ghost use Rattle.rules.specs.Calls.{costLimit};
 ghost use Rattle.messages.specs.Lent.{lent, Fits, NodeFits, EdgeFits};
-ghost use Rattle.messages.specs.Seen.{Viewed};
-ghost use Rattle.messages.specs.Bounds.{countOf, sizeOf, partLeast, leastLabels};
+ghost use Rattle.messages.specs.Seen.{Viewed, startsOf, labelsOf};
+ghost use Rattle.messages.specs.EdgeMessage.{usableCells};
+ghost use Rattle.messages.specs.Bounds.{rowLeast, tableLeast, leastLabels};
 
-// How many costs the node `k` has, or the edge `k`.
-fn size_of(sheet: &[u8], view: View, of_edges: bool, k: usize) -> usize
-    requires { ⌜ Viewed (now sheet) view × (k < countOf (instanceOf (now sheet)) «of_edges») ⌝ }
-    ensures { λ r. ⌜ r ≡ sizeOf (instanceOf (now (sheet .entry))) «of_edges» k ⌝ }
+// The sum of each node's least cost.
+fn node_sum(sheet: &[u8], view: View, nodes: &[i64]) -> i64
+    requires { ⌜ Viewed (now sheet) view ⌝ }
+    requires { ⌜ NodeFits (now sheet) (now nodes) ⌝ }
+    ensures { λ r. ⌜ (r ≡ total (view .nodes) (rowLeast (instanceOf (now (sheet .entry))) (now (nodes .entry)))) × (natAbs r ≤ view .nodes * costLimit) ⌝ }
 {
-    if of_edges {
-        degree_of(sheet, low_end(sheet, view, k)) * degree_of(sheet, high_end(sheet, view, k))
-    } else {
-        degree_of(sheet, k)
-    }
-}
-
-// The sum of each node's least cost, or of each edge's least cell.
-fn least_sum(sheet: &[u8], view: View, of_edges: bool, count: usize, costs: &[i64]) -> i64
-    requires { ⌜ Viewed (now sheet) view × (count ≡ countOf (instanceOf (now sheet)) «of_edges») ⌝ }
-    requires { ⌜ Fits (offset (sizeOf (instanceOf (now sheet)) «of_edges») count) (now costs) ⌝ }
-    ensures { λ r. ⌜ (r ≡ total count (partLeast (sizeOf (instanceOf (now (sheet .entry))) «of_edges») (now (costs .entry)))) × (natAbs r ≤ count * costLimit) ⌝ }
-{
+    let count = view.nodes;
     let mut sum = 0;
     let mut at = 0;
-    let mut k = 0;
-    while k < count {
-        let to = at + size_of(sheet, view, of_edges, k);
-        sum = plus(sum, least_of(&costs[at..to]));
+    let mut u = 0;
+    while u < count {
+        let to = at + degree_of(sheet, u);
+        sum = plus(sum, least_of(&nodes[at..to]));
         at = to;
-        k += 1;
+        u += 1;
+    }
+    sum
+}
+
+// How many cells edge `e` has.
+fn size_of(sheet: &[u8], view: View, e: usize) -> usize
+    requires { ⌜ Viewed (now sheet) view × (e < view .edges) ⌝ }
+    ensures { λ r. ⌜ r ≡ tableSize (instanceOf (now (sheet .entry))) e ⌝ }
+{
+    degree_of(sheet, low_end(sheet, view, e)) * degree_of(sheet, high_end(sheet, view, e))
+}
+
+// The least usable of the cells of edge `e`.
+fn cell_least(sheet: &[u8], view: View, starts: &[usize; 64], cells: &[i64], e: usize) -> i64
+    requires { ⌜ Viewed (now sheet) view × (now starts ≡ startsOf (now sheet)) × (e < view .edges) ⌝ }
+    requires { ⌜ Fits (tableSize (instanceOf (now sheet)) e) (now cells) ⌝ }
+    ensures { λ r. ⌜ r ≡ leastOf (usableCells true (labelsOf (now (sheet .entry)) (instanceOf (now (sheet .entry)) .low e)) (labelsOf (now (sheet .entry)) (instanceOf (now (sheet .entry)) .high e)) (now (cells .entry))) ⌝ }
+{
+    let u = low_end(sheet, view, e);
+    let v = high_end(sheet, view, e);
+    let low = labels_of(sheet, view, starts[u], u);
+    let high = labels_of(sheet, view, starts[v], v);
+    usable_least(cells, low, high)
+}
+
+// The sum of each edge's least usable cell.
+fn edge_sum(sheet: &[u8], view: View, starts: &[usize; 64], edges: &[i64]) -> i64
+    requires { ⌜ Viewed (now sheet) view × (now starts ≡ startsOf (now sheet)) ⌝ }
+    requires { ⌜ EdgeFits (now sheet) (now edges) ⌝ }
+    ensures { λ r. ⌜ (r ≡ total (view .edges) (tableLeast (now (sheet .entry)) (now (edges .entry)))) × (natAbs r ≤ view .edges * costLimit) ⌝ }
+{
+    let count = view.edges;
+    let mut sum = 0;
+    let mut at = 0;
+    let mut e = 0;
+    while e < count {
+        let to = at + size_of(sheet, view, e);
+        sum = plus(sum, cell_least(sheet, view, starts, &edges[at..to], e));
+        at = to;
+        e += 1;
     }
     sum
 }
@@ -87,17 +121,18 @@ fn label_sum(least: &[i64; 256], count: usize) -> i64
 pub(crate) fn lower_bound(
     sheet: &[u8],
     view: View,
+    starts: &[usize; 64],
     nodes: &[i64],
     labels: &[i64],
     edges: &[i64],
 ) -> i64
-    requires { ⌜ Viewed (now sheet) view ⌝ }
+    requires { ⌜ Viewed (now sheet) view × (now starts ≡ startsOf (now sheet)) ⌝ }
     requires { ⌜ NodeFits (now sheet) (now nodes) × NodeFits (now sheet) (now labels) × EdgeFits (now sheet) (now edges) ⌝ }
     ensures { λ r. ⌜ (r ≡ boundIn (instanceOf (now (sheet .entry))) (lent (now (nodes .entry)) (now (labels .entry)) (now (edges .entry)) [])) × (natAbs r ≤ 384 * costLimit) ⌝ }
 {
     let least = label_leasts(sheet, view, labels);
     let by_label = label_sum(&least, view.labels);
-    let by_node = least_sum(sheet, view, false, view.nodes, nodes);
-    let by_edge = least_sum(sheet, view, true, view.edges, edges);
+    let by_node = node_sum(sheet, view, nodes);
+    let by_edge = edge_sum(sheet, view, starts, edges);
     plus(plus(by_node, by_edge), by_label)
 }

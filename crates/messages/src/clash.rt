@@ -1,5 +1,6 @@
 // The unusable cells of an edge: where its two ends have one label that only one node may take. Document 02, wish 2.
-use instance::exclusive;
+use index::wide;
+use instance::usable;
 ghost use Rattle.messages.specs.Clash.{Rising, Upto, Sought, Skips};
 
 // The first place from `from` on whose label is not below `label`.
@@ -22,12 +23,12 @@ pub(crate) fn clash(labels: &[u8], label: u8, at: usize) -> usize
     requires { ⌜ Rising (now labels) × Sought (now labels) label at ⌝ }
     ensures { λ r. ⌜ Skips (now (labels .entry)) label r ⌝ }
 {
-    if at < labels.len() {
-        if labels[at] == label {
-            if exclusive(label as usize) {
-                return at;
-            }
-        }
+    if at == labels.len() {
+        return at;
     }
-    labels.len()
+    if usable(wide(label), wide(labels[at])) {
+        labels.len()
+    } else {
+        at
+    }
 }

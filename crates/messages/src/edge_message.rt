@@ -1,7 +1,11 @@
 // Messages between one node's costs and one edge's table: what is given, whether both stay within the limit, and the moves. Document 01, kinds 1 and 2.
+use crate::clash::clash;
+use crate::clash::seek;
 use crate::rows::OUT;
+use crate::rows::UNBOUNDED;
 use crate::rows::all_half;
 use crate::rows::excess;
+use crate::rows::least_but;
 use crate::rows::least_of;
 use crate::rows::less_at;
 use crate::rows::share_of;
@@ -11,6 +15,8 @@ ghost use Prim.Native.Nat.{ℕ, _^_, _≤_, _<_};
 ghost use lib.Dec.{ltb};
 ghost use lib.ListN.{length, getD, set, replicate};
 ghost use lib.IntN.{pos, negℤ, natAbs, _+ℤ_, _-ℤ_};
+ghost use lib.Signed.{_<ℤ_};
+ghost use Rattle.integers.specs.Least.{leastFrom, without};
 ghost use Rattle.integers.specs.Share.{shareDown};
 ghost use Rattle.integers.specs.Sum.{Within};
 ghost use Rattle.integers.specs.Places.{every};
@@ -19,7 +25,7 @@ ghost use Rattle.integers.proofs.Ranges.{shifted};
 ghost use mir.Syntax.{w64};
 ghost use mir.Val.{SFits};
 ghost use Rattle.rules.specs.Calls.{costLimit};
-ghost use Rattle.messages.specs.EdgeMessage.{nodeAmounts, edgeAmounts, takenOf, movedCells, movedLine, Shape, Above, over, leastAt};
+ghost use Rattle.messages.specs.EdgeMessage.{nodeAmounts, edgeAmounts, takenOf, movedCells, movedLine, Shape, Above, Ends, over, lineAt, unbounded, leastAt, turnedLeast};
 
 // One r-th of how far a cost is above the least, rounded down.
 fn above(cost: i64, low: i64, share: u8) -> i64
@@ -39,6 +45,19 @@ fn turned(cost: i64, low: i64, share: u8) -> i64
     -above(cost, low, share)
 }
 
+// The same of the least of a position, and 0 if that has no usable cell.
+fn turned_least(cost: i64, low: i64, share: u8) -> i64
+    requires { ⌜ (cost <ℤ unbounded → Above low cost) ⌝ }
+    requires { ⌜ 1 ≤ share ⌝ }
+    ensures { λ p. ⌜ p ≡ turnedLeast cost low share ⌝ }
+{
+    if cost < UNBOUNDED {
+        turned(cost, low, share)
+    } else {
+        0
+    }
+}
+
 // What each position of a node gives.
 pub(crate) fn node_amounts(row: &[i64], share: u8) -> [i64; 16]
     requires { ⌜ (0 < length (now row)) × (length (now row) ≤ 16) ⌝ }
@@ -56,69 +75,76 @@ pub(crate) fn node_amounts(row: &[i64], share: u8) -> [i64; 16]
     amounts
 }
 
-// What the least of each of the first `width` places gives.
-fn turn_all(least: &mut [i64; 16], width: usize, low: i64, share: u8)
-    requires { ⌜ (width ≤ 16) × (length (now least) ≡ 16) ⌝ }
+// What the least of each of the first `many` places gives.
+fn turn_all(least: &mut [i64; 16], many: usize, low: i64, share: u8)
+    requires { ⌜ (many ≤ 16) × (length (now least) ≡ 16) ⌝ }
     requires { ⌜ 1 ≤ share ⌝ }
-    requires { ⌜ ((k : ℕ) → k < width → Above low (getD (now least) k (pos 0))) ⌝ }
-    ensures { λ _. ⌜ now (least .exit) ≡ over (λ k. negℤ (shareDown (getD (now (least .entry)) k (pos 0) -ℤ low) share)) width (now (least .entry)) ⌝ }
+    requires { ⌜ ((k : ℕ) → k < many → getD (now least) k (pos 0) <ℤ unbounded → Above low (getD (now least) k (pos 0))) ⌝ }
+    ensures { λ _. ⌜ now (least .exit) ≡ over (λ k. turnedLeast (getD (now (least .entry)) k (pos 0)) low share) many (now (least .entry)) ⌝ }
 {
     let mut k = 0;
-    while k < width {
-        least[k] = turned(least[k], low, share);
+    while k < many {
+        least[k] = turned_least(least[k], low, share);
         k += 1;
     }
 }
 
-// The least of the column `k` of an edge's table.
-fn column_low(cells: &[i64], width: usize, height: usize, k: usize) -> i64
+// The least of the column `k` of an edge's table but for its row `skip`, if there is one.
+fn column_low(cells: &[i64], width: usize, height: usize, k: usize, skip: usize) -> i64
     requires { ⌜ Shape width height (now cells) ⌝ }
     requires { ⌜ k < width ⌝ }
-    ensures { λ r. ⌜ r ≡ leastAt false width (now (cells .entry)) k ⌝ }
+    ensures { λ r. ⌜ r ≡ leastFrom unbounded (without (lineAt false width height (now (cells .entry)) k) skip) ⌝ }
 {
-    let mut best = cells[k];
-    let mut at = k + width;
-    let mut r = 1;
+    let mut best = UNBOUNDED;
+    let mut at = k;
+    let mut r = 0;
     while r < height {
-        best = less_at(cells, at, best);
+        if r != skip {
+            best = less_at(cells, at, best);
+        }
         at += width;
         r += 1;
     }
     best
 }
 
-// The least of the cells with an edge's end at its position `k`: of the lower end a row, of the higher a column.
-fn low_at(cells: &[i64], width: usize, height: usize, by_row: bool, k: usize) -> i64
+// The least of the cells with an edge's end at its position `k`, but for the one at `skip`: of the lower end a row, of the higher a column.
+fn low_at(cells: &[i64], width: usize, height: usize, by_row: bool, k: usize, skip: usize) -> i64
     requires { ⌜ Shape width height (now cells) ⌝ }
     requires { ⌜ k < cond «by_row» height width ⌝ }
-    ensures { λ r. ⌜ r ≡ leastAt «by_row» width (now (cells .entry)) k ⌝ }
+    ensures { λ r. ⌜ r ≡ leastFrom unbounded (without (lineAt «by_row» width height (now (cells .entry)) k) skip) ⌝ }
 {
     if by_row {
         let a = k * width;
         let b = a + width;
-        least_of(&cells[a..b])
+        least_but(&cells[a..b], skip, UNBOUNDED)
     } else {
-        column_low(cells, width, height, k)
+        column_low(cells, width, height, k, skip)
     }
 }
 
-// How many positions an edge's end has.
-fn positions(width: usize, height: usize, by_row: bool) -> usize
-    ensures { λ r. ⌜ r ≡ cond «by_row» height width ⌝ }
+// The first of two numbers if an edge's end goes by rows, else the second.
+fn either(by_row: bool, row: usize, column: usize) -> usize
+    ensures { λ r. ⌜ r ≡ cond «by_row» row column ⌝ }
 {
-    if by_row { height } else { width }
+    if by_row { row } else { column }
 }
 
-// The least of each position of an edge's end.
-fn least_by(cells: &[i64], width: usize, height: usize, by_row: bool) -> [i64; 16]
-    requires { ⌜ Shape width height (now cells) ⌝ }
-    ensures { λ r. ⌜ r ≡ over (leastAt «by_row» width (now (cells .entry))) (cond «by_row» height width) (replicate 16 (pos 0)) ⌝ }
+// The least usable cell of each position of an edge's end. The labels of both ends rise, so that one walk along the other end's finds each clash.
+fn least_by(cells: &[i64], own: &[u8], other: &[u8], by_row: bool) -> [i64; 16]
+    requires { ⌜ Ends «by_row» (now own) (now other) (now cells) ⌝ }
+    ensures { λ r. ⌜ r ≡ over (leastAt «by_row» (now (own .entry)) (now (other .entry)) (now (cells .entry))) (length (now (own .entry))) (replicate 16 (pos 0)) ⌝ }
 {
-    let many = positions(width, height, by_row);
+    let width = either(by_row, other.len(), own.len());
+    let height = either(by_row, own.len(), other.len());
     let mut least = [0; 16];
+    let mut at = 0;
     let mut k = 0;
-    while k < many {
-        least[k] = low_at(cells, width, height, by_row, k);
+    while k < own.len() {
+        let label = own[k];
+        at = seek(other, label, at);
+        let skip = clash(other, label, at);
+        least[k] = low_at(cells, width, height, by_row, k, skip);
         k += 1;
     }
     least
@@ -127,18 +153,18 @@ fn least_by(cells: &[i64], width: usize, height: usize, by_row: bool) -> [i64; 1
 // What each position of an edge's end gives.
 pub(crate) fn edge_amounts(
     cells: &[i64],
-    width: usize,
-    height: usize,
+    own: &[u8],
+    other: &[u8],
     by_row: bool,
     share: u8,
 ) -> [i64; 16]
-    requires { ⌜ Shape width height (now cells) ⌝ }
+    requires { ⌜ Ends «by_row» (now own) (now other) (now cells) ⌝ }
     requires { ⌜ 1 ≤ share ⌝ }
     requires { ⌜ Within costLimit (now cells) ⌝ }
-    ensures { λ r. ⌜ r ≡ edgeAmounts «by_row» width (now (cells .entry)) share ⌝ }
+    ensures { λ r. ⌜ r ≡ edgeAmounts «by_row» (now (own .entry)) (now (other .entry)) (now (cells .entry)) share ⌝ }
 {
-    let mut amounts = least_by(cells, width, height, by_row);
-    let many = positions(width, height, by_row);
+    let mut amounts = least_by(cells, own, other, by_row);
+    let many = own.len();
     let low = least_of(&amounts[..many]);
     turn_all(&mut amounts, many, low, share);
     amounts

@@ -11,33 +11,39 @@ use crate::rows::OUT;
 use crate::view::View;
 use crate::view::degree_of;
 use crate::view::high_end;
+use crate::view::labels_of;
 use crate::view::low_end;
 use instance::refusal::COST_OVERFLOW;
 use instance::refusal::NONE;
 ghost use mathlib.Core.Path.{_≡_};
 ghost use Prim.Native.Nat.{_^_, _≤_};
+ghost use lib.ListN.{length};
 ghost use Rattle.integers.specs.Sum.{Within};
 ghost use Rattle.instance.specs.Sheet.{instanceOf};
 ghost use Rattle.rules.specs.Calls.{costLimit};
 ghost use Rattle.messages.specs.EdgeMessage.{takenOf};
-ghost use Rattle.messages.specs.EdgeRecord.{edgeMove, edgeMoved, EdgeLegal, Joined, amountsOf, fitParts, partsMoved};
+ghost use Rattle.messages.specs.EdgeRecord.{edgeMove, edgeMoved, EdgeLegal, Joined, Between, amountsOf, fitParts, partsMoved};
 
 // What each position of the node gives, or turned round what each position of the edge's end does.
 fn amounts_of(
     row: &[i64],
     cells: &[i64],
-    width: usize,
-    height: usize,
+    low: &[u8],
+    high: &[u8],
     by_row: bool,
     turned: bool,
     share: u8,
 ) -> [i64; 16]
-    requires { ⌜ Joined (now row) (now cells) width height ⌝ }
+    requires { ⌜ Joined (now row) (now cells) (length (now high)) (length (now low)) × Between (now low) (now high) (now cells) ⌝ }
     requires { ⌜ 1 ≤ share ⌝ }
-    ensures { λ r. ⌜ r ≡ amountsOf turned «by_row» width (now (row .entry)) (now (cells .entry)) share ⌝ }
+    ensures { λ r. ⌜ r ≡ amountsOf turned «by_row» (now (low .entry)) (now (high .entry)) (now (row .entry)) (now (cells .entry)) share ⌝ }
 {
     if turned {
-        edge_amounts(cells, width, height, by_row, share)
+        if by_row {
+            edge_amounts(cells, low, high, true, share)
+        } else {
+            edge_amounts(cells, high, low, false, share)
+        }
     } else {
         node_amounts(row, share)
     }
@@ -69,18 +75,20 @@ fn both_fit(
 fn move_parts(
     row: &mut [i64],
     cells: &mut [i64],
-    width: usize,
-    height: usize,
+    low: &[u8],
+    high: &[u8],
     by_row: bool,
     turned: bool,
     share: u8,
     limit: u64,
 ) -> u8
-    requires { ⌜ Joined (now row) (now cells) width height ⌝ }
+    requires { ⌜ Joined (now row) (now cells) (length (now high)) (length (now low)) × Between (now low) (now high) (now cells) ⌝ }
     requires { ⌜ (1 ≤ share) × (limit ≤ costLimit) ⌝ }
-    ensures { λ r. ⌜ edgeMove r (now (row .exit)) (now (cells .exit)) ≡ partsMoved limit (amountsOf turned «by_row» width (now (row .entry)) (now (cells .entry)) share) (now (row .entry)) (now (cells .entry)) «by_row» width ⌝ }
+    ensures { λ r. ⌜ edgeMove r (now (row .exit)) (now (cells .exit)) ≡ partsMoved limit (amountsOf turned «by_row» (now (low .entry)) (now (high .entry)) (now (row .entry)) (now (cells .entry)) share) (now (row .entry)) (now (cells .entry)) «by_row» (length (now (high .entry))) ⌝ }
 {
-    let amounts = amounts_of(row, cells, width, height, by_row, turned, share);
+    let width = high.len();
+    let height = low.len();
+    let amounts = amounts_of(row, cells, low, high, by_row, turned, share);
     let taken = negated(&amounts);
     if both_fit(row, cells, width, height, by_row, &amounts, &taken, limit) {
         raise_each(row, &taken);
@@ -107,19 +115,20 @@ pub(crate) fn move_edge(
 {
     let u = step.node;
     let e = step.index;
-    let low = low_end(sheet, view, e);
-    let height = degree_of(sheet, low);
-    let width = degree_of(sheet, high_end(sheet, view, e));
+    let x = low_end(sheet, view, e);
+    let y = high_end(sheet, view, e);
+    let low = labels_of(sheet, view, starts[x], x);
+    let high = labels_of(sheet, view, starts[y], y);
     let a = starts[u];
     let b = a + degree_of(sheet, u);
     let c = tables[e];
-    let d = c + height * width;
+    let d = c + low.len() * high.len();
     move_parts(
         &mut nodes[a..b],
         &mut edges[c..d],
-        width,
-        height,
-        u == low,
+        low,
+        high,
+        u == x,
         turned,
         step.share,
         view.limit,

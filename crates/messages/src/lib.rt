@@ -17,6 +17,7 @@ mod round_record;
 mod rounding;
 mod rows;
 mod turn;
+mod usable;
 mod view;
 
 pub use answers::Answer;

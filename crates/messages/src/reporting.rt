@@ -46,11 +46,11 @@ fn tell(
     ensures { λ r. ⌜ reportedAs r ≡ told (now (sheet .entry)) (lent (now (nodes .entry)) (now (labels .entry)) (now (edges .entry)) (now (incumbent .entry))) ⌝ }
 {
     let view = view_of(layout, limit);
-    let bound = lower_bound(sheet, view, nodes, labels, edges);
+    let starts = layout.starts;
+    let bound = lower_bound(sheet, view, &starts, nodes, labels, edges);
     if none_kept(incumbent) {
         return Report::Bound(bound);
     }
-    let starts = layout.starts;
     let tables = layout.tables;
     answer(bound, price(sheet, view, &starts, &tables, incumbent))
 }

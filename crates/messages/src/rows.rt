@@ -79,6 +79,20 @@ pub(crate) fn least(row: &[i64], start: i64) -> i64
     least_in_turn(&row[i..], smaller(smaller(a, b), smaller(c, d)))
 }
 
+// Above every cost: the least of no costs.
+pub(crate) const UNBOUNDED: i64 = 0x7FFF_FFFF_FFFF_FFFF;
+
+// The least of `start` and the costs of a row but for the one at `skip`, if there is one.
+pub(crate) fn least_but(row: &[i64], skip: usize, start: i64) -> i64
+    ensures { λ r. ⌜ r ≡ leastFrom start (without (now (row .entry)) skip) ⌝ }
+{
+    if row.len() <= skip {
+        return least(row, start);
+    }
+    let next = skip + 1;
+    least(&row[next..], least(&row[..skip], start))
+}
+
 // The least cost of a row. That the first counts twice changes nothing.
 pub(crate) fn least_of(row: &[i64]) -> i64
     requires { ⌜ 0 < length (now row) ⌝ }
@@ -87,16 +101,13 @@ pub(crate) fn least_of(row: &[i64]) -> i64
     least(row, row[0])
 }
 
-// The least of the other costs of a row.
+// The least of the other costs of a row. That the first of them counts twice changes nothing.
 pub(crate) fn rival(row: &[i64], k: usize) -> i64
     requires { ⌜ (k < length (now row)) × (1 < length (now row)) ⌝ }
     ensures { λ r. ⌜ r ≡ leastOf (without (now (row .entry)) k) ⌝ }
 {
-    if k == 0 {
-        return least_of(&row[1..]);
-    }
-    let next = k + 1;
-    least(&row[next..], least_of(&row[..k]))
+    let other = if k == 0 { 1 } else { 0 };
+    least_but(row, k, row[other])
 }
 
 // One r-th of the distance `d`, rounded toward zero. Most shares are 1, and a division takes long.

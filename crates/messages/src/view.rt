@@ -6,9 +6,9 @@ ghost use mathlib.Core.Path.{_≡_};
 ghost use Prim.Native.Nat.{_+_, _≤_, _<_};
 ghost use lib.ListN.{length};
 ghost use Rattle.instance.specs.Bytes.{priceAt};
-ghost use Rattle.instance.specs.Instance.{nodeCells};
+ghost use Rattle.instance.specs.Instance.{first, nodeCells};
 ghost use Rattle.instance.specs.Sheet.{instanceOf, refusalOf};
-ghost use Rattle.messages.specs.Seen.{viewOf, Viewed};
+ghost use Rattle.messages.specs.Seen.{viewOf, Viewed, labelsOf};
 
 // No cost passes this, up or down.
 pub(crate) const COST_LIMIT: u64 = 0x100_0000_0000;
@@ -70,6 +70,16 @@ pub(crate) fn label_at(sheet: &[u8], view: View, place: usize) -> usize
     ensures { λ r. ⌜ (r ≡ instanceOf (now (sheet .entry)) .label place) × (r < 256) ⌝ }
 {
     wide(sheet[view.nodes + place])
+}
+
+// The labels of node `u`, whose places begin at `start`: a part of the sheet.
+pub(crate) fn labels_of(sheet: &[u8], view: View, start: usize, u: usize) -> &[u8]
+    requires { ⌜ Viewed (now sheet) view × (u < instanceOf (now sheet) .nodeCount) × (start ≡ first (instanceOf (now sheet)) u) ⌝ }
+    ensures { λ r. ⌜ now r ≡ labelsOf (now (sheet .entry)) u ⌝ }
+{
+    let a = view.nodes + start;
+    let b = a + degree_of(sheet, u);
+    &sheet[a..b]
 }
 
 // The price whose four bytes stand at `at`.

@@ -1,8 +1,10 @@
--- `column_low` meets its contract. The loop's invariant: `at` is where the row r has the column, and `best` is its least over the first r rows.
+-- `column_low` meets its contract. The loop's invariant: `at` is where the row r has the column, and `best` is its least over the first r rows but for `skip`.
 use Prim.Native.Nat.{ℕ, _+_, _-_, _*_, _≤_, _<_}
 use native.Mathlib.Omega.{arith}
 use native.Mathlib.Nat.{mul-le-mul-right}
+use mathlib.Core.Logic.{⊎-elim}
 use mathlib.Core.Path.{_≡_, ap, ap₂, _∙_}
+use mathlib.Core.List.{List}
 use borrow.Author.Needs.{needs}
 use lib.ListN.{length, getD}
 use lib.IntN.{ℤ, pos}
@@ -10,21 +12,27 @@ use denote.Ref.{now}
 use mir.Syntax.{w64}
 use mir.Val.{toZ}
 use Rattle.integers.specs.Least.{minℤ}
-use Rattle.integers.proofs.Bits.{same, answer}
-use Rattle.messages.proofs.EdgeLaws.{cell-in, columnLeast, column-first, column-more, column-least}
+use Rattle.integers.proofs.Bits.{answer}
+use Rattle.messages.specs.EdgeMessage.{unbounded}
+use Rattle.messages.proofs.EdgeLaws.{cell-in}
+use Rattle.messages.proofs.UsableLaws.{leastBut, but-none, but-skipped, but-more, but-all}
 use Rattle.messages.proofs.edge_message.column_low.Statement.{statement}
 use Rattle.messages.proofs.edge_message.column_low.Tie as tie
 
+-- the column's cell of each row
+abbrev column : List ℤ → ℕ → ℕ → ℕ → ℤ
+column l w k = λ r. getD l (w * r + k) (pos 0)
+
 abbrev Inv-loop : tie.InvT-loop
-Inv-loop cells width height k best₀ at₀ r₀ best at r = (0 < r) × (r ≤ height) × (at ≡ width * r + k) × (toZ w64 best ≡ columnLeast cells width r k)
+Inv-loop cells width height k skip best₀ at₀ r₀ best at r = (r ≤ height) × (at ≡ width * r + k) × (toZ w64 best ≡ leastBut (column cells width k) unbounded skip r)
 
 abbrev μ-loop : tie.MeasureT-loop
-μ-loop cells width height k best₀ at₀ r₀ best at r = height - r
+μ-loop cells width height k skip best₀ at₀ r₀ best at r = height - r
 
 -- the column's cell of this turn is one of the table
 module _ (c : tie.In-loop Inv-loop μ-loop) where
   abbrev q : tie.Start Inv-loop μ-loop
-  q = c .before .before .before
+  q = c .before .before
 
   inside : c .before .loop .at < length (now (q .args .cells))
   inside =
@@ -37,30 +45,28 @@ module _ (c : tie.In-loop Inv-loop μ-loop) where
       let g : p .loop .r ≤ 16 = omega (arith, q .pre .0, c .loop-test .taken) in
       omega (arith, mul-le-mul-right (q .args .width) g, q .pre, p .loop .inv)
 
-loop-holds : tie.Need-loop-holds Inv-loop μ-loop
-loop-holds c =
-    let q = c .before in
-    let l = now (q .args .cells) in
-    (omega arith, q .pre .0 .high, omega arith, same (getD l (q .args .k) (pos 0)) (c .best .given) ∙ column-first l (q .args .width) (q .args .k))
-
 loop-again : tie.Need-loop-again Inv-loop μ-loop
 loop-again c =
     let p = c .before .before in
-    let q = p .before .before in
-    let l = now (q .args .cells) in (
-      omega arith,
+    let x = p .before .args in
+    let l = now (x .cells) in
+    let f = column l (x .width) (x .k) in (
       omega arith,
       omega (arith, p .loop .inv),
-      answer (c .less-at .ok) (c .less-at .ensures) ∙ ap₂ (λ (i : ℕ) (b : ℤ). minℤ (getD l i (pos 0)) b) (p .loop .inv .2) (p .loop .inv .3)
-          ∙ column-more l (q .args .width) (q .args .k) (p .loop .r) (p .loop .inv .0),
+      ⊎-elim
+          (λ m. ap (toZ w64) (m .2) ∙ answer (m .1 .ok) (m .1 .ensures) ∙ ap₂ (λ (i : ℕ) (b : ℤ). minℤ (getD l i (pos 0)) b) (p .loop .inv .1) (p .loop .inv .2)
+          ∙ but-more f unbounded (x .skip) (p .loop .r) (m .0 .taken))
+          (λ m. ap (toZ w64) (m .1) ∙ p .loop .inv .2 ∙ but-skipped f unbounded (x .skip) (p .loop .r) (m .0 .left))
+          (c .if1 .came),
     )
 
 returns : tie.Need-returns Inv-loop μ-loop
 returns c =
     let p = c .before in
-    let q = p .before .before in
-    let e : p .loop .r ≡ q .args .height = omega arith in
-    p .loop .inv .3 ∙ ap (λ (n : ℕ). columnLeast (now (q .args .cells)) (q .args .width) n (q .args .k)) e ∙ column-least (q .pre .0) (q .args .k) (q .pre .1)
+    let x = p .before .args in
+    let f = column (now (x .cells)) (x .width) (x .k) in
+    let e : p .loop .r ≡ x .height = omega arith in
+    p .loop .inv .2 ∙ ap (leastBut f unbounded (x .skip)) e ∙ but-all f unbounded (x .skip) (x .height)
 
 pub column-low-spec : {M : Type 1} → statement M
 column-low-spec =
@@ -68,11 +74,8 @@ column-low-spec =
     (tie.spec
     Inv-loop
     μ-loop
-    (λ c. omega (arith, c .pre))
-    (λ c. omega (arith, cell-in (c .pre .0) 0 (c .args .k) (c .pre .0 .high) (c .pre .1)))
-    (λ c. omega (arith, c .before .pre))
-    loop-holds
-    (λ c κs. inside c)
+    (λ c. (omega arith, omega arith, but-none _ unbounded _))
+    (λ c κs. inside (c .before))
     (λ c. omega (arith, few (c .before)))
     (λ c. search needs)
     (λ c. search needs)

@@ -3,19 +3,24 @@ use Prim.Native.Nat.{_+_, _*_, _≤_, _<_}
 use native.Mathlib.Omega.{arith}
 use mathlib.Core.Path.{refl, sym, ap, _∙_, subst}
 use mathlib.Core.Bool.{Bool, cond}
+use mathlib.Core.List.{List}
 use borrow.Author.Needs.{needs}
 use lib.ListN.{length}
 use lib.IntN.{ℤ}
 use denote.Ref.{now}
+use Rattle.integers.specs.Least.{leastFrom, without}
 use Rattle.integers.proofs.Bits.{answer}
-use Rattle.messages.specs.EdgeMessage.{leastAt}
-use Rattle.messages.proofs.EdgeLaws.{row-end, row-least}
+use Rattle.messages.specs.EdgeMessage.{lineAt, unbounded}
+use Rattle.messages.proofs.EdgeLaws.{row-end, row-part}
 use Rattle.messages.proofs.edge_message.low_at.Statement.{statement}
 use Rattle.messages.proofs.edge_message.low_at.Tie as tie
 
--- the answer by rows, or by columns
-abbrev told : tie.Start → Bool → ℤ
-told q b = leastAt b (q .args .width) (now (q .args .cells)) (q .args .k)
+-- the answer for a line, and the line by rows, or by columns
+abbrev told : tie.Start → List ℤ → ℤ
+told q l = leastFrom unbounded (without l (q .args .skip))
+
+abbrev line : tie.Start → Bool → List ℤ
+line q b = lineAt b (q .args .width) (q .args .height) (now (q .args .cells)) (q .args .k)
 
 -- there is a row k, which ends within the table
 module _ (c : tie.Then1) where
@@ -36,10 +41,13 @@ column-low-requires c κs =
 returns : tie.Need-returns
 returns c =
     let t = c .before .before in
-    answer (c .least-of .ok) (c .least-of .ensures) ∙ row-least (q t .pre .0) (q t .args .k) (row t) ∙ ap (told (q t)) (sym (t .if1 .taken))
+    let x = t .before .args in
+    answer (c .least-but .ok) (c .least-but .ensures) ∙ ap (told (q t)) (row-part (q t .pre .0) (x .k) refl ∙ ap (line (q t)) (sym (t .if1 .taken)))
 
 returns-2 : tie.Need-returns-2
-returns-2 c = answer (c .column-low .ok) (c .column-low .ensures) ∙ ap (told (c .before .before)) (sym (c .before .if1 .left))
+returns-2 c =
+    let q = c .before .before in
+    answer (c .column-low .ok) (c .column-low .ensures) ∙ ap (λ (b : Bool). told q (line q b)) (sym (c .before .if1 .left))
 
 pub low-at-spec : {M : Type 1} → statement M
 low-at-spec =

@@ -1,55 +1,95 @@
--- `move_edge` meets its contract: the sheet says where the row and the table stand, and the parts move as the rules say.
-use Prim.Native.Nat.{_+_, _*_}
+-- `move_edge` meets its contract: the sheet says where the row, the table and the labels of both ends stand, and the parts move as the rules say.
+use Prim.Native.Nat.{ℕ, _+_, _*_, _<_}
 use native.Mathlib.Omega.{arith}
+use mathlib.Core.List.{List}
 use mathlib.Core.Path.{_≡_, ap, _∙_}
 use borrow.Author.Needs.{needs}
-use lib.ListN.{getD}
+use lib.ListN.{length, getD}
 use denote.Ref.{now}
 use Rattle.integers.proofs.Rows.{part-back}
 use Rattle.instance.specs.Instance.{Instance}
 use Rattle.instance.specs.Sheet.{instanceOf}
+use Rattle.messages.specs.Seen.{labelsOf}
 use Rattle.messages.specs.EdgeRecord.{edgeMove}
-use Rattle.messages.proofs.EdgeRecordLaws.{legal-node, legal-edge, row-ends, table-ends, row-room, table-room, legal-joined, putBack, legal-moved}
+use Rattle.messages.proofs.SheetLaws.{proper, start-is}
+use Rattle.messages.proofs.EdgeRecordLaws.{legal-node, legal-edge, row-ends, table-ends, row-room, table-room, legal-joined, legal-between, putBack, legal-moved}
 use Rattle.messages.proofs.edge_record.move_edge.Statement.{statement}
 use Rattle.messages.proofs.edge_record.move_edge.Tie as tie
 
--- what was read of the sheet
-module _ (p : tie.After-degree-of3) where
-  abbrev l : tie.After-low-end
-  l = p .before .before .before .before .before
-
+-- the two ends
+module _ (h : tie.After-high-end) where
   abbrev start : tie.Start
-  start = l .before .before
+  start = h .before .before .before
+
+  abbrev s : List ℕ
+  s = now (start .args .sheet)
 
   abbrev I : Instance
-  I = instanceOf (now (start .args .sheet))
+  I = instanceOf s
 
-  el : l .low-end .result ≡ I .low (start .args .step .index)
-  el = l .low-end .ensures .0
+  el : h .before .low-end .result ≡ I .low (start .args .step .index)
+  el = h .before .low-end .ensures .0
 
-  et : p .before .before .before .before .degree-of .result ≡ I .degree (I .low (start .args .step .index))
-  et = p .before .before .before .before .degree-of .ensures .0 ∙ ap (I .degree) el
+  eh : h .high-end .result ≡ I .high (start .args .step .index)
+  eh = h .high-end .ensures .0
 
-  ew : p .before .before .degree-of2 .result ≡ I .degree (I .high (start .args .step .index))
-  ew = p .before .before .degree-of2 .ensures .0 ∙ ap (I .degree) (p .before .before .before .high-end .ensures .0)
+  few : {u : ℕ} → u < I .nodeCount → u < 64
+  few l = omega (arith, proper s (start .pre .seen .viewed .readable) .nodesFew)
 
-  ed : p .degree-of3 .result ≡ I .degree (start .args .step .node)
-  ed = p .degree-of3 .ensures .0
+labels-of-requires : tie.Need-labels-of-requires
+labels-of-requires c κs =
+    let h = c .before in
+    let g = start h .pre .seen in
+    let l = h .before .low-end .ensures .1 in
+    (g .viewed, l, start-is (s h) (g .begun) (g .viewed .readable) l)
+
+labels-of-requires-2 : tie.Need-labels-of-requires-2
+labels-of-requires-2 c κs =
+    let h = c .before .before .before in
+    let g = start h .pre .seen in
+    let l = h .high-end .ensures .1 in
+    (g .viewed, l, start-is (s h) (g .begun) (g .viewed .readable) l)
+
+-- what was read of the sheet
+module _ (p : tie.After-degree-of) where
+  abbrev h : tie.After-high-end
+  h = p .before .before .before .before .before .before
+
+  abbrev q : tie.Start
+  q = start h
+
+  abbrev low : List ℕ
+  low = now (p .before .before .before .before .labels-of .result)
+
+  abbrev high : List ℕ
+  high = now (p .before .before .labels-of2 .result)
+
+  low-is : low ≡ labelsOf (s h) (I h .low (q .args .step .index))
+  low-is = p .before .before .before .before .labels-of .ensures ∙ ap (labelsOf (s h)) (el h)
+
+  high-is : high ≡ labelsOf (s h) (I h .high (q .args .step .index))
+  high-is = p .before .before .labels-of2 .ensures ∙ ap (labelsOf (s h)) (eh h)
+
+  ed : p .degree-of .result ≡ I h .degree (q .args .step .node)
+  ed = p .degree-of .ensures .0
 
 move-parts-requires : tie.Need-move-parts-requires
-move-parts-requires c κs = let p = c .before .before .before in (legal-joined (start p .pre) (el p) (et p) (ew p) (ed p), (start p .pre .shares, start p .pre .seen .viewed .limit))
+move-parts-requires c κs =
+    let p = c .before .before .before in
+    let g = q p .pre in
+    ((legal-joined g (el (h p)) (low-is p) (high-is p) (ed p), legal-between g (el (h p)) (low-is p) (high-is p) (ed p)), (g .shares, g .seen .viewed .limit))
 
 returns : tie.Need-returns
 returns c =
     let m = c .before .before in
     let p = m .before .before .before .before in
-    let x = start p .args in
+    let x = q p .args in
     let a = getD (now (x .starts)) (x .step .node) 0 in
-    let b = a + p .degree-of3 .result in
+    let b = a + p .degree-of .result in
     let t = getD (now (x .tables)) (x .step .index) 0 in
-    let d = t + p .before .before .before .before .degree-of .result * p .before .before .degree-of2 .result in
+    let d = t + length (low p) * length (high p) in
     (λ i. edgeMove (m .move-parts .result) (part-back a b (now (x .nodes)) (m .move-parts .last .0) (omega arith) i) (part-back t d (now (x .edges)) (m .move-parts .last .1 .0) (omega arith) i))
-    ∙ ap (putBack (now (x .nodes)) (now (x .edges)) a b t d) (m .move-parts .ensures) ∙ legal-moved (start p .pre) (el p) (et p) (ew p) (ed p) (x .view .limit) (x .turned)
+    ∙ ap (putBack (now (x .nodes)) (now (x .edges)) a b t d) (m .move-parts .ensures) ∙ legal-moved (q p .pre) (el (h p)) (low-is p) (high-is p) (ed p) (x .view .limit) (x .turned)
 
 pub move-edge-spec : {M : Type 1} → statement M
 move-edge-spec =
@@ -57,24 +97,28 @@ move-edge-spec =
     (tie.spec
     (λ c κs. search needs)
     (λ c κs. search needs)
+    (λ c. omega (arith, few c (c .before .low-end .ensures .1)))
+    (λ c. few c (c .before .low-end .ensures .1))
+    labels-of-requires
+    (λ c. omega (arith, few (c .before .before) (c .before .before .high-end .ensures .1)))
+    (λ c. few (c .before .before) (c .before .before .high-end .ensures .1))
+    labels-of-requires-2
+    (λ c. omega (arith, legal-node (start (c .before .before .before .before) .pre)))
+    (λ c. legal-node (start (c .before .before .before .before) .pre))
     (λ c κs. search needs)
-    (λ c κs. search needs)
-    (λ c. omega (arith, legal-node (c .before .before .before .before .before .pre)))
-    (λ c. legal-node (c .before .before .before .before .before .pre))
-    (λ c κs. search needs)
-    (λ c. record { fits = omega (arith, row-room (start c .pre) (el c) (et c) (ew c) (ed c)) })
-    (λ c. omega (arith, legal-edge (start c .pre)))
-    (λ c. legal-edge (start c .pre))
-    (λ c. let p = c .before in record { fits = omega (arith, table-room (start p .pre) (el p) (et p) (ew p) (ed p)) })
-    (λ c. let p = c .before in record { fits = omega (arith, table-room (start p .pre) (el p) (et p) (ew p) (ed p)) })
-    (λ c. let p = c .before in omega (arith, row-room (start p .pre) (el p) (et p) (ew p) (ed p)))
+    (λ c. record { fits = omega (arith, row-room (q c .pre) (el (h c)) (low-is c) (high-is c) (ed c)) })
+    (λ c. omega (arith, legal-edge (q c .pre)))
+    (λ c. legal-edge (q c .pre))
+    (λ c. let p = c .before in record { fits = omega (arith, table-room (q p .pre) (el (h p)) (low-is p) (high-is p) (ed p)) })
+    (λ c. let p = c .before in record { fits = omega (arith, table-room (q p .pre) (el (h p)) (low-is p) (high-is p) (ed p)) })
+    (λ c. let p = c .before in omega (arith, row-room (q p .pre) (el (h p)) (low-is p) (high-is p) (ed p)))
     (λ c. search needs)
     (λ c. search needs)
-    (λ c. let p = c .before in row-ends (start p .pre) (el p) (et p) (ew p) (ed p))
-    (λ c. let p = c .before .before in omega (arith, table-room (start p .pre) (el p) (et p) (ew p) (ed p)))
+    (λ c. let p = c .before in row-ends (q p .pre) (el (h p)) (low-is p) (high-is p) (ed p))
+    (λ c. let p = c .before .before in omega (arith, table-room (q p .pre) (el (h p)) (low-is p) (high-is p) (ed p)))
     (λ c. search needs)
     (λ c. search needs)
-    (λ c. let p = c .before .before in table-ends (start p .pre) (el p) (et p) (ew p) (ed p))
+    (λ c. let p = c .before .before in table-ends (q p .pre) (el (h p)) (low-is p) (high-is p) (ed p))
     move-parts-requires
     (λ c. search needs)
     (λ c. search needs)

@@ -3,7 +3,7 @@ use Prim.Native.Nat.{_^_}
 use mathlib.Core.Path.{sym, ap, _∙_, subst}
 use mathlib.Core.List.{List}
 use borrow.Author.Needs.{needs}
-use lib.ListN.{getD}
+use lib.ListN.{length, getD}
 use lib.IntN.{ℤ, pos}
 use denote.Ref.{now}
 use Rattle.integers.specs.Sum.{Within}
@@ -18,13 +18,13 @@ use Rattle.messages.proofs.edge_record.move_parts.Tie as tie
 -- the amounts: none passes twice the limit
 module _ (p : tie.After-amounts-of) where
   abbrev start : tie.Start
-  start = p .before .before .before
+  start = p .before .before .before .before .before
 
   small : Within (2 ^ 41) (p .amounts-of .result)
-  small = subst (λ (v : List ℤ). Within (2 ^ 41) v) (sym (p .amounts-of .ensures)) (amounts-within (start .pre .0) (start .args .turned) (start .args .by-row) (start .args .share))
+  small = subst (λ (v : List ℤ). Within (2 ^ 41) v) (sym (p .amounts-of .ensures)) (amounts-within (start .pre .0 .0) (start .args .turned) (start .args .by-row) (now (start .args .low)) (now (start .args .high)) (start .args .share))
 
   abbrev moved : List ℤ → EdgeMove
-  moved v = let x = start .args in partsMoved (x .limit) v (now (x .row)) (now (x .cells)) (x .by-row) (x .width)
+  moved v = let x = start .args in partsMoved (x .limit) v (now (x .row)) (now (x .cells)) (x .by-row) (length (now (x .high)))
 
 -- the same negated
 taken-small : (n : tie.After-negated) → Within (2 ^ 41) (n .negated .result)
@@ -34,18 +34,18 @@ both-fit-requires : tie.Need-both-fit-requires
 both-fit-requires c κs =
     let n = c .before .before .before .before in
     let p = n .before .before in
-    (start p .pre .0, (small p, n .negated .ensures, start p .pre .1 .1))
+    (start p .pre .0 .0, (small p, n .negated .ensures, start p .pre .1 .1))
 
 raise-each-requires : tie.Need-raise-each-requires
 raise-each-requires c κs =
     let n = c .before .before .before .before .before .before .before .before in
-    let j = start (n .before .before) .pre .0 in
+    let j = start (n .before .before) .pre .0 .0 in
     (j .few, (j .rowRange, taken-small n))
 
 move-cells-requires : tie.Need-move-cells-requires
 move-cells-requires c κs =
     let p = c .before .before .before .before .before .before .before .before .before .before .before .before .before .before in
-    let j = start p .pre .0 in
+    let j = start p .pre .0 .0 in
     (j .shape, (j .cellRange, small p))
 
 returns : tie.Need-returns
@@ -56,7 +56,7 @@ returns c =
     let n = f .before .before .before .before .before in
     let p = n .before .before in
     let row = now (start p .args .row) in
-    let k = r .raise-each .ensures ∙ ap (λ (v : List ℤ). shifted (λ i. getD v i (pos 0)) row) (n .negated .ensures) ∙ taken-row (p .amounts-of .result) row (start p .pre .0 .few) in
+    let k = r .raise-each .ensures ∙ ap (λ (v : List ℤ). shifted (λ i. getD v i (pos 0)) row) (n .negated .ensures) ∙ taken-row (p .amounts-of .result) row (start p .pre .0 .0 .few) in
     (λ i. edgeMove 0 (k i) (c .before .move-cells .ensures i)) ∙ sym (if-true _ _ (sym (f .both-fit .ensures) ∙ r .before .before .before .if1 .taken)) ∙ ap (moved p) (p .amounts-of .ensures)
 
 returns-2 : tie.Need-returns-2

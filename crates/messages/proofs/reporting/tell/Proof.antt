@@ -39,32 +39,36 @@ view-of-requires : tie.Need-view-of-requires
 view-of-requires c κs = let q = c .before .before in let d = laid (sheet q) (q .pre .0 .0) (unread q) in (d .nodesFew, d .positionsFew, d .edgesFew)
 
 lower-bound-requires : tie.Need-lower-bound-requires
-lower-bound-requires c κs = let q = c .before .before .before in (seen q (c .view-of .ensures) .viewed, fit-of (sheet q) (q .args .limit) (lends q) (q .pre .0 .1) (well q .lengths) (well q .ranged))
+lower-bound-requires c κs =
+    let v = c .before .before in
+    let q = v .before .before .before in
+    let t = seen q (v .view-of .ensures) in
+    ((t .viewed, t .begun), fit-of (sheet q) (q .args .limit) (lends q) (q .pre .0 .1) (well q .lengths) (well q .ranged))
 
 returns : tie.Need-returns
 returns c =
     let f = c .before .before in
-    let q = f .before .before .before .before in
+    let q = f .before .before .before .before .before .before in
     ap calls.bound (same (f .lower-bound .result) (f .lower-bound .ok) ∙ f .lower-bound .ensures .0) ∙ told-bound (sheet q) (lends q) (sym (c .before .none-kept .ensures) ∙ c .if1 .taken)
 
 price-requires : tie.Need-price-requires
 price-requires c κs =
-    let e = c .before .before .before .before in
-    let v = e .before .before .before in
+    let e = c .before .before .before in
+    let v = e .before .before .before .before .before in
     let q = v .before .before .before in
     (seen q (v .view-of .ensures), kept-labelling (instanceOf (sheet q)) (well q .kept) (well q .incumbent) (sym (e .before .none-kept .ensures) ∙ e .if1 .left))
 
 answer-requires : tie.Need-answer-requires
 answer-requires c κs =
-    let f = c .before .before .before .before .before .before .before in
+    let f = c .before .before .before .before .before .before in
     (rw (same (f .lower-bound .result) (f .lower-bound .ok)) (f .lower-bound .ensures .1), rw (same (c .price .result) (c .price .ok)) (c .price .ensures .1))
 
 returns-2 : tie.Need-returns-2
 returns-2 c =
     let g = c .before in
-    let e = g .before .before .before .before .before in
+    let e = g .before .before .before .before in
     let f = e .before .before in
-    let q = f .before .before .before .before in
+    let q = f .before .before .before .before .before .before in
     c .answer .ensures ∙ ap₂ against (same (f .lower-bound .result) (f .lower-bound .ok) ∙ f .lower-bound .ensures .0) (same (g .price .result) (g .price .ok) ∙ g .price .ensures .0)
     ∙ told-kept (sheet q) (lends q) (sym (e .before .none-kept .ensures) ∙ e .if1 .left)
 

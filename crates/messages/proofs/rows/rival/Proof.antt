@@ -1,65 +1,34 @@
--- `rival` meets its contract: the least of what stands before the cost is the start value for what stands after it.
-use Prim.Native.Nat.{ℕ, suc, _+_}
-use native.Mathlib.Numerals.{add-one}
+-- `rival` meets its contract: the first of the others is the start value, and counts as an element besides.
+use Prim.Native.Nat.{ℕ, _≤_}
 use native.Mathlib.Omega.{arith}
-use mathlib.Core.Path.{_≡_, sym, ap, ap₂, _∙_}
-use borrow.Author.Tests.{eqb-true}
-use lib.Dec.{eqb}
-use lib.ListN.{take, drop}
-use lib.Seq.{length-take-le}
-use denote.Ref.{now}
-use Rattle.integers.specs.Least.{leastFrom, leastOf, without}
-use Rattle.integers.proofs.Places.{by-test}
-use Rattle.integers.proofs.Rows.{tail-part}
-use Rattle.integers.proofs.Bits.{answer}
-use Rattle.messages.proofs.RowLaws.{least-of-append}
+use mathlib.Core.Logic.{⊎-elim}
+use mathlib.Core.Path.{ap, _∙_}
 use borrow.Author.Needs.{needs}
+use lib.ListN.{getD}
+use lib.IntN.{ℤ, pos}
+use denote.Ref.{now}
+use Rattle.integers.specs.Least.{leastFrom, without}
+use Rattle.integers.proofs.Rows.{length-without}
+use Rattle.integers.proofs.Bits.{same, answer}
+use Rattle.messages.proofs.LeastLaws.{least-whole, first-but-first, first-but-later}
 use Rattle.messages.proofs.rows.rival.Statement.{statement}
 use Rattle.messages.proofs.rows.rival.Tie as tie
 
+few : (j : tie.Joined1) → j .if1 .other ≤ 1
+few j = ⊎-elim (λ m. omega arith) (λ m. omega arith) (j .if1 .came)
+
 returns : tie.Need-returns
 returns c =
-    let q = c .before .before .before in
-    let l = now (q .args .row) in
-    let z = c .before .before .if1 .taken in
-    answer (c .least-of .ok) (c .least-of .ensures) ∙ ap leastOf (tail-part 1 l ∙ ap (without l) (sym z))
-
-slice-aggregate-least-of : tie.Need-slice-aggregate-least-of
-slice-aggregate-least-of c = let q = c .before .before .before in sym (length-take-le (q .args .k) (now (q .args .row)) (omega arith))
-
-least-of-requires-2 : tie.Need-least-of-requires-2
-least-of-requires-2 c κs =
-    let q = c .before .before .before in
-    let n = length-take-le (q .args .k) (now (q .args .row)) (omega arith) in
-    let h = c .before .before .if1 .left in
-    by-test (eqb (q .args .k) 0) (λ t. absurd (h (eqb-true (q .args .k) 0 t))) (λ t. let d : q .args .k ≡ 0 → ⊥ = h in omega arith)
-
-returns-2 : tie.Need-returns-2
-returns-2 c =
-    let q = c .before .before .before .before .before in
+    let j = c .before .before .before in
+    let q = j .before in
     let l = now (q .args .row) in
     let k = q .args .k in
-    let n = length-take-le k l (omega arith) in
-    let d : k ≡ 0 → ⊥ = c .before .before .before .before .if1 .left in
-    answer (c .least .ok) (c .least .ensures)
-    ∙ ap₂ leastFrom (answer (c .before .least-of2 .ok) (c .before .least-of2 .ensures)) (tail-part (k + 1) l ∙ ap (λ (m : ℕ). drop m l) (add-one k))
-    ∙ sym (least-of-append (take k l) (drop (suc k) l) (omega arith))
+    let at : ℕ → ℤ = (λ i. getD l i (pos 0)) in
+    answer (c .least-but .ok) (c .least-but .ensures)
+    ∙ ap (λ (z : ℤ). leastFrom z (without l k))
+    (same (at (j .if1 .other)) (c .before .least-but-arg .given)
+    ∙ ⊎-elim (λ m. ap at (m .1) ∙ first-but-first l k (pos 0) (m .0 .taken)) (λ m. ap at (m .1) ∙ first-but-later l k (pos 0) (m .0 .left)) (j .if1 .came))
+    ∙ least-whole (without l k) (pos 0) (omega (arith, length-without l k (q .pre .0)))
 
 pub rival-spec : {M : Type 1} → statement M
-rival-spec =
-    tie.close
-    (tie.spec
-    (λ c. search needs)
-    (λ c. search needs)
-    (λ c. search needs)
-    (λ c κs. search needs)
-    returns
-    (λ c. search needs)
-    (λ c. search needs)
-    (λ c. search needs)
-    (λ c. search needs)
-    (λ c. search needs)
-    slice-aggregate-least-of
-    least-of-requires-2
-    (λ c κs. search needs)
-    returns-2)
+rival-spec = tie.close (tie.spec (λ c. omega (arith, few (c .before))) (λ c. omega (arith, few (c .before))) (λ c κs. search needs) returns)

@@ -1,0 +1,40 @@
+-- `turned_least` meets its contract: the test says whether there is a usable cell.
+use mathlib.Core.Path.{_≡_, sym, ap, ap₂, _∙_}
+use mathlib.Core.Bool.{Bool}
+use lib.IntN.{ℤ, pos, negℤ, _-ℤ_}
+use lib.Signed.{ltZ}
+use mir.Syntax.{w64}
+use mir.Val.{toZ, ofZ}
+use mir.Facts.{toZ-ofZ}
+use Rattle.integers.specs.Share.{shareDown}
+use Rattle.integers.proofs.Parts.{linear}
+use Rattle.integers.proofs.Bits.{answer, read}
+use Rattle.integers.proofs.Places.{if-true, if-false}
+use Rattle.messages.specs.EdgeMessage.{unbounded, turnedLeast}
+use Rattle.messages.proofs.edge_message.turned_least.Statement.{statement}
+use Rattle.messages.proofs.edge_message.turned_least.Tie as tie
+
+-- the code's test is the definition's
+tested : (q : tie.Start) {b : Bool} → ltZ (toZ w64 (ofZ w64 (q .args .cost))) unbounded ≡ b → ltZ (q .args .cost) unbounded ≡ b
+tested q e = ap (λ (z : ℤ). ltZ z unbounded) (sym (toZ-ofZ (q .fits .cost))) ∙ e
+
+turned-requires : tie.Need-turned-requires
+turned-requires c κs =
+    let q = c .before in
+    (rw (toZ-ofZ (q .fits .cost), toZ-ofZ (q .fits .low)) (q .pre .0 (omega (linear, read (q .fits .cost)))), q .pre .1)
+
+returns : tie.Need-returns
+unfolding turnedLeast
+returns c =
+    let q = c .before .before in
+    let x = q .args in
+    answer (c .turned .ok) (c .turned .ensures)
+    ∙ ap₂ (λ (z b : ℤ). negℤ (shareDown (z -ℤ b) (x .share))) (toZ-ofZ (q .fits .cost)) (toZ-ofZ (q .fits .low))
+    ∙ sym (if-true (negℤ (shareDown (x .cost -ℤ x .low) (x .share))) (pos 0) (tested q (c .before .if1 .taken)))
+
+returns-2 : tie.Need-returns-2
+unfolding turnedLeast
+returns-2 c = let x = c .before .args in sym (if-false (negℤ (shareDown (x .cost -ℤ x .low) (x .share))) (pos 0) (tested (c .before) (c .if1 .left)))
+
+pub turned-least-spec : {M : Type 1} → statement M
+turned-least-spec = tie.close (tie.spec turned-requires returns returns-2)
