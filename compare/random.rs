@@ -6,9 +6,9 @@ use crate::sheets::{self, Rng};
 use crate::twin::{self, Refusal, Sheet, LIMIT, RECORD, TRAILER, VANISHED};
 
 const CALLS: [&str; 6] = ["read", "open", "run", "report", "sweep", "edge"];
-const REFUSALS: usize = 15;
+const REFUSALS: usize = 16;
 
-/// What shows the rules of the 255, by place in SEEN.
+/// What shows the rules of the 255 and of the unusable cells, by place in SEEN.
 #[derive(Clone, Copy)]
 enum Seen {
     Sheet,
@@ -27,9 +27,40 @@ enum Seen {
     CostRefused,
     Written,
     Unfit,
+    Shared,
+    SharedSeldom,
+    SharedEverywhere,
+    SharedWholly,
+    Bare,
+    OneCell,
+    OneVanished,
+    Blocked,
+    BlockedOnce,
+    BlockedPrice,
+    BlockedLabel,
+    BlockedRead,
+    BlockedOpen,
+    BlockedRun,
+    BlockedRagged,
+    BlockedCost,
+    BlockedReport,
+    BlockedDirection,
+    BlockedSweep,
+    BlockedEdge,
+    Bounded,
+    BoundedVanished,
+    BoundedRefused,
+    Raised,
+    Lowered,
+    LeastOfPosition,
+    LeastOfEdge,
+    BareNamed,
+    LeastVanished,
+    RaisedOver,
+    LoweredOver,
 }
 
-const SEEN: [&str; Seen::Unfit as usize + 1] = [
+const SEEN: [&str; Seen::LoweredOver as usize + 1] = [
     "readable sheets with a 255",
     "of these with one at every node",
     "of these with one alone at some node",
@@ -46,9 +77,39 @@ const SEEN: [&str; Seen::Unfit as usize + 1] = [
     "runs and reports refused 9 for label costs at a 255 alone",
     "sweeps written for a sheet with a 255",
     "sweeps refused 8 for a length of 2E + N + 1 records",
+    "readable sheets with an edge whose ends share a label",
+    "of these at less than half of the edges",
+    "of these at every edge",
+    "of these with an edge whose ends have the same labels, two or more",
+    "readable sheets with a position that has no usable cell on an edge",
+    "readable sheets with an edge of one cell and two labels",
+    "readable sheets with an edge of one cell and 255 twice",
+    "sheets refused 15",
+    "of these for one edge among others",
+    "sheets refused 7 with an edge that has no usable cell",
+    "sheets refused 5 with an edge that has no usable cell",
+    "reads refused 15 with an answer of another length",
+    "opens refused 15 with a buffer of another length",
+    "runs refused 15 with a buffer of another length",
+    "runs refused 15 with a list of a length that is no multiple of 5",
+    "runs and reports refused 15 with a cost past the limit",
+    "reports refused 15 with a buffer of another length",
+    "sweeps refused 15 with a direction that does not exist",
+    "sweeps refused 15 with a buffer of another length",
+    "edges refused 15 with a number that does not exist",
+    "reports with an unusable cell below the usable ones of its edge",
+    "reports with the cell of 255 and 255 below the other usable ones of its edge",
+    "reports refused 14 that would not be if every cell were usable",
+    "records looked at, of kind 1, that move an unusable cell",
+    "records looked at, of kind 2, that move an unusable cell",
+    "records looked at, of kind 2, with an unusable cell below the usable ones of its position",
+    "records looked at, of kind 2, with an unusable cell below the usable ones of its edge",
+    "records looked at, of kind 2, to an end with a position that has no usable cell",
+    "records looked at, of kind 2, with the cell of 255 and 255 below the others of its position",
+    "runs refused 13 at kind 1 for unusable cells alone",
+    "runs refused 13 at kind 2 for unusable cells alone",
 ];
 
-#[derive(Default)]
 struct Tally {
     /// How often each call answered each refusal, 0 being none.
     refusals: [[u64; REFUSALS]; CALLS.len()],
@@ -56,6 +117,8 @@ struct Tally {
 }
 
 impl Tally {
+    const EMPTY: Self = Tally { refusals: [[0; REFUSALS]; CALLS.len()], seen: [0; SEEN.len()] };
+
     fn see(&mut self, what: Seen, occurs: bool) {
         self.seen[what as usize] += u64::from(occurs);
     }
@@ -68,6 +131,109 @@ struct Place {
     cell: usize,
 }
 
+/// A cell of an edge: its place in the buffer, and the position and label of each end.
+struct Cell {
+    place: usize,
+    positions: [usize; 2],
+    labels: [u8; 2],
+}
+
+impl Cell {
+    fn usable(&self) -> bool {
+        self.labels[0] != self.labels[1] || self.vanished()
+    }
+
+    fn vanished(&self) -> bool {
+        self.labels == [VANISHED; 2]
+    }
+}
+
+/// What a sheet has at its nodes and edges.
+#[derive(Default)]
+struct Layout {
+    /// Each node's labels.
+    labels: Vec<Vec<u8>>,
+    ends: Vec<[u8; 2]>,
+    /// Each edge's cells.
+    tables: Vec<Vec<Cell>>,
+}
+
+impl Layout {
+    /// Nothing unless the sections fit: a sheet refused with 5, 7 or 15 has a layout too.
+    fn new(bytes: &[u8]) -> Self {
+        if !matches!(refusal(bytes), None | Some(Refusal::Label | Refusal::Price | Refusal::Unusable)) {
+            return Layout::default();
+        }
+        let trailer = &bytes[bytes.len() - TRAILER..];
+        let edges = usize::from(u16::from_le_bytes([trailer[2], trailer[3]]));
+        let (degrees, mut rest) = bytes.split_at(usize::from(trailer[0]));
+        let mut labels = Vec::new();
+        for &degree in degrees {
+            let (own, others) = rest.split_at(usize::from(degree));
+            labels.push(own.to_vec());
+            rest = others;
+        }
+        let node_cells = labels.iter().map(Vec::len).sum::<usize>();
+        let (ends, _) = rest[4 * node_cells..].as_chunks::<2>();
+        let ends = ends[..edges].to_vec();
+        let mut places = 0..;
+        let tables = ends.iter().map(|&[u, v]| {
+            let mut table = Vec::new();
+            for (row, &low) in labels[usize::from(u)].iter().enumerate() {
+                for (column, &high) in labels[usize::from(v)].iter().enumerate() {
+                    let place = places.next().unwrap_or_default();
+                    table.push(Cell { place, positions: [row, column], labels: [low, high] });
+                }
+            }
+            table
+        });
+        let tables = tables.collect();
+        Layout { labels, ends, tables }
+    }
+
+    /// Buffers of the right lengths.
+    fn buffers(&self) -> Buffers {
+        let node_cells = self.labels.iter().map(Vec::len).sum();
+        let edge_cells = self.tables.iter().map(Vec::len).sum();
+        Buffers::zeros(node_cells, node_cells, edge_cells, self.labels.len())
+    }
+
+    fn vanished(&self) -> Vec<Place> {
+        let mut places = Vec::new();
+        let mut end = 0;
+        for (node, own) in self.labels.iter().enumerate() {
+            end += own.len();
+            if own.last() == Some(&VANISHED) {
+                places.push(Place { node, position: own.len() - 1, cell: end - 1 });
+            }
+        }
+        places
+    }
+
+    /// How many edges have no usable cell.
+    fn blocked(&self) -> usize {
+        self.tables.iter().filter(|table| !table.iter().any(Cell::usable)).count()
+    }
+
+    fn unusable(&self) -> impl Iterator<Item = &Cell> {
+        self.tables.iter().flatten().filter(|cell| !cell.usable())
+    }
+}
+
+fn refusal(bytes: &[u8]) -> Option<Refusal> {
+    twin::read(bytes).err()
+}
+
+/// The least cost of some cells, none if there are none.
+fn least<'a>(edges: &[i64], cells: impl Iterator<Item = &'a Cell>) -> Option<i64> {
+    cells.map(|cell| edges[cell.place]).min()
+}
+
+/// Whether the first of the costs is lower; none is higher than all.
+fn lower(left: Option<i64>, right: Option<i64>) -> bool {
+    left.is_some_and(|left| right.is_none_or(|right| left < right))
+}
+
 /// The name of the call that differed.
 struct Difference(&'static str);
 
@@ -76,14 +242,14 @@ struct Case<'a> {
     sheet: &'a [u8],
     proved: Buffers,
     twin: Buffers,
-    /// Nowhere in a sheet that cannot be read.
+    layout: Layout,
     vanished: Vec<Place>,
     tally: &'a mut Tally,
 }
 
 /// Answers whether all were alike.
 pub fn compare(seed: u64, count: u64) -> bool {
-    let mut tally = Tally::default();
+    let mut tally = Tally::EMPTY;
     for case in 0..count {
         let mut rng = Rng(seed.wrapping_mul(0x1_0000_0001).wrapping_add(case << 20));
         if let Err(Difference(call)) = compare_case(&mut rng, &mut tally) {
@@ -112,10 +278,11 @@ fn print(seed: u64, count: u64, tally: &Tally) {
 
 fn compare_case(rng: &mut Rng, tally: &mut Tally) -> Result<(), Difference> {
     let sheet = if rng.percent(65) { sheets::valid(rng).bytes() } else { sheets::damaged(rng) };
-    see_sheet(&sheet, tally);
-    let buffers = Buffers::fitting(&sheet);
-    let vanished = vanished(&sheet);
-    let mut case = Case { sheet: &sheet, proved: buffers.clone(), twin: buffers, vanished, tally };
+    let layout = Layout::new(&sheet);
+    see_sheet(&sheet, &layout, tally);
+    let buffers = layout.buffers();
+    let vanished = layout.vanished();
+    let mut case = Case { sheet: &sheet, proved: buffers.clone(), twin: buffers, layout, vanished, tally };
     case.read(rng)?;
     case.edge(rng)?;
     case.poke_all(rng);
@@ -126,46 +293,59 @@ fn compare_case(rng: &mut Rng, tally: &mut Tally) -> Result<(), Difference> {
     Ok(())
 }
 
-fn see_sheet(bytes: &[u8], tally: &mut Tally) {
-    let sheet = match twin::read(bytes) {
-        Ok(sheet) => sheet,
-        Err(Refusal::Label) => return see_misplaced(bytes, tally),
-        Err(_) => return,
-    };
-    let places = vanished(bytes);
+fn see_sheet(bytes: &[u8], layout: &Layout, tally: &mut Tally) {
+    let blocked = layout.blocked();
+    let several = layout.tables.len() > 1;
+    match refusal(bytes) {
+        None => see_readable(layout, bytes[bytes.len() - TRAILER + 1], tally),
+        Some(Refusal::Label) => {
+            tally.see(Seen::BlockedLabel, blocked > 0);
+            see_misplaced(layout, tally);
+        }
+        Some(Refusal::Price) => tally.see(Seen::BlockedPrice, blocked > 0),
+        Some(Refusal::Unusable) => {
+            tally.see(Seen::Blocked, true);
+            tally.see(Seen::BlockedOnce, blocked == 1 && several);
+        }
+        Some(_) => {}
+    }
+}
+
+fn see_readable(layout: &Layout, label_limit: u8, tally: &mut Tally) {
+    let Layout { labels, tables, .. } = layout;
+    let places = layout.vanished();
     let any = !places.is_empty();
     tally.see(Seen::Sheet, any);
-    tally.see(Seen::EveryNode, any && places.len() == sheet.degrees.len());
-    tally.see(Seen::Alone, places.iter().any(|place| sheet.degrees[place.node] == 1));
-    tally.see(Seen::NoOthers, any && sheet.label_limit == 0);
+    tally.see(Seen::EveryNode, any && places.len() == labels.len());
+    tally.see(Seen::Alone, places.iter().any(|place| labels[place.node].len() == 1));
+    tally.see(Seen::NoOthers, any && label_limit == 0);
+
+    let shared = |table: &[Cell]| table.iter().filter(|cell| !cell.usable()).count();
+    let sharing = tables.iter().filter(|table| shared(table) > 0).count();
+    tally.see(Seen::Shared, sharing > 0);
+    tally.see(Seen::SharedSeldom, sharing > 0 && 2 * sharing < tables.len());
+    tally.see(Seen::SharedEverywhere, sharing > 0 && sharing == tables.len());
+    let wholly = |table: &[Cell]| shared(table) > 1 && shared(table) * shared(table) == table.len();
+    tally.see(Seen::SharedWholly, tables.iter().any(|table| wholly(table)));
+    let bare = |table: &[Cell]| (0..2).any(|end| has_bare_position(table, end));
+    tally.see(Seen::Bare, tables.iter().any(|table| bare(table)));
+    let of_one = || tables.iter().filter(|table| table.len() == 1).map(|table| &table[0]);
+    tally.see(Seen::OneCell, of_one().any(|cell| !cell.vanished()));
+    tally.see(Seen::OneVanished, of_one().any(Cell::vanished));
 }
 
-/// For a sheet refused with 5, whose sections fit.
-fn see_misplaced(bytes: &[u8], tally: &mut Tally) {
-    let (degrees, mut labels) = bytes.split_at(usize::from(bytes[bytes.len() - TRAILER]));
-    let (mut not_last, mut twice) = (false, false);
-    for &degree in degrees {
-        let (own, rest) = labels.split_at(usize::from(degree));
-        not_last |= own[..own.len() - 1].contains(&VANISHED);
-        twice |= own.iter().filter(|&&label| label == VANISHED).count() > 1;
-        labels = rest;
-    }
-    tally.see(Seen::NotLast, not_last);
-    tally.see(Seen::Twice, twice);
+/// Whether a position of that end has no usable cell.
+fn has_bare_position(table: &[Cell], end: usize) -> bool {
+    let usable = |position| table.iter().any(|cell| cell.usable() && cell.positions[end] == position);
+    table.iter().any(|cell| !usable(cell.positions[end]))
 }
 
-fn vanished(bytes: &[u8]) -> Vec<Place> {
-    let Ok(sheet) = twin::read(bytes) else { return Vec::new() };
-    let mut places = Vec::new();
-    for (node, &degree) in sheet.degrees.iter().enumerate() {
-        for position in 0..usize::from(degree) {
-            let cell = usize::from(sheet.node_starts[node]) + position;
-            if sheet.labels[cell] == VANISHED {
-                places.push(Place { node, position, cell });
-            }
-        }
-    }
-    places
+/// For a sheet refused with 5.
+fn see_misplaced(layout: &Layout, tally: &mut Tally) {
+    let not_last = |own: &[u8]| own[..own.len() - 1].contains(&VANISHED);
+    let twice = |own: &[u8]| own.iter().filter(|&&label| label == VANISHED).count() > 1;
+    tally.see(Seen::NotLast, layout.labels.iter().any(|own| not_last(own)));
+    tally.see(Seen::Twice, layout.labels.iter().any(|own| twice(own)));
 }
 
 /// The right number of places, now and then another.
@@ -220,24 +400,29 @@ impl Case<'_> {
         let (mut left, mut right) = (vec![77; length], vec![77; length]);
         let left_number = Proved::read(self.sheet, &mut left);
         let number = Twin::read(self.sheet, &mut right);
+        self.see_blocked(Seen::BlockedRead, number, length != READING);
         self.judge(0, u64::from(number), (left_number, left), (number, right))
     }
 
     fn open(&mut self) -> Result<(), Difference> {
         let left = Proved::open(self.sheet, &mut self.proved);
         let right = Twin::open(self.sheet, &mut self.twin);
+        self.see_blocked(Seen::BlockedOpen, right, !self.fits());
         self.judge(1, u64::from(right), left, right)
     }
 
     fn run(&mut self, rng: &mut Rng, records: &[u8]) -> Result<(), Difference> {
         let length = places(rng, COUNTS);
         let (mut left, mut right) = (vec![77; length], vec![77; length]);
-        let before = self.twin.incumbent.clone();
+        let before = self.twin.clone();
         let costs = self.vanished_costs();
         let left_number = Proved::run(self.sheet, records, &mut self.proved, &mut left);
         let number = Twin::run(self.sheet, records, &mut self.twin, &mut right);
         self.see_costs(number, costs);
-        self.see_run(number, records, &right, &before);
+        self.see_blocked(Seen::BlockedRun, number, length != COUNTS || !self.fits());
+        self.see_blocked(Seen::BlockedRagged, number, records.len() % RECORD != 0);
+        self.see_run(number, records, &right, &before.incumbent);
+        self.see_records(rng, number, records, &right, &before);
         self.judge(2, u64::from(number), (left_number, left), (number, right))
     }
 
@@ -247,6 +432,8 @@ impl Case<'_> {
         let left_number = Proved::report(self.sheet, &self.proved, &mut left);
         let number = Twin::report(self.sheet, &self.twin, &mut right);
         self.see_costs(number, self.vanished_costs());
+        self.see_blocked(Seen::BlockedReport, number, length != VALUES || !self.fits());
+        self.see_bound(number);
         let twice = self.vanished_taken() > 1;
         self.tally.see(Seen::Reported, number == 0 && twice);
         self.tally.see(Seen::Torn, number == Refusal::Incumbent as u8 && twice);
@@ -257,14 +444,15 @@ impl Case<'_> {
     fn sweep(&mut self, rng: &mut Rng) -> Result<(), Difference> {
         let direction = if rng.percent(92) { rng.byte() & 1 } else { rng.pick(&[2, 3, 128, 255]) };
         // As if no label were 255.
-        let full = twin::read(self.sheet)
-            .map_or(RECORD, |sheet| RECORD * (2 * sheet.ends.len() + sheet.node_cells() + 1));
-        let right = full - RECORD * self.vanished.len();
-        let others = [0, right - 1, right + 1, right - RECORD, right + RECORD, full, full];
-        let length = if rng.percent(88) { right } else { rng.pick(&others) };
+        let full = RECORD * (2 * self.layout.tables.len() + self.layout.buffers().labels.len() + 1);
+        let fitting = full - RECORD * self.vanished.len();
+        let others = [0, fitting - 1, fitting + 1, fitting - RECORD, fitting + RECORD, full, full];
+        let length = if rng.percent(88) { fitting } else { rng.pick(&others) };
         let (mut left, mut right) = (vec![0xA5; length], vec![0xA5; length]);
         let left_number = Proved::sweep(self.sheet, direction, &mut left);
         let number = Twin::sweep(self.sheet, direction, &mut right);
+        self.see_blocked(Seen::BlockedDirection, number, direction > 1);
+        self.see_blocked(Seen::BlockedSweep, number, direction <= 1 && length != fitting);
         let any = !self.vanished.is_empty();
         self.tally.see(Seen::Written, number == 0 && any);
         self.tally.see(Seen::Unfit, number == Refusal::Lent as u8 && any && length == full);
@@ -277,7 +465,7 @@ impl Case<'_> {
     }
 
     fn edge(&mut self, rng: &mut Rng) -> Result<(), Difference> {
-        let edges = twin::read(self.sheet).map_or(1, |sheet| sheet.ends.len());
+        let edges = self.layout.tables.len();
         let edge = if rng.percent(85) {
             rng.below(edges)
         } else {
@@ -287,6 +475,7 @@ impl Case<'_> {
         let (mut left, mut right) = (vec![77; length], vec![77; length]);
         let left_number = Proved::edge(self.sheet, edge, &mut left);
         let number = Twin::edge(self.sheet, edge, &mut right);
+        self.see_blocked(Seen::BlockedEdge, number, edge >= edges);
         if let [offset, length] = right[..] {
             let part = &self.sheet[offset as usize..][..length as usize];
             assert_eq!(part, twin::edge_prices(self.sheet, edge));
@@ -336,8 +525,122 @@ impl Case<'_> {
 
     /// What a run or report answered, and the costs it found.
     fn see_costs(&mut self, number: u8, (any, others_within): (bool, bool)) {
-        self.tally.see(Seen::CostLent, any && matches!(number, 0 | 12..));
+        self.tally.see(Seen::CostLent, any && matches!(number, 0 | 12..=14));
         self.tally.see(Seen::CostRefused, number == Refusal::CostRange as u8 && others_within);
+        self.see_blocked(Seen::BlockedCost, number, !others_within);
+    }
+
+    /// A call refused with 15 that would be refused later.
+    fn see_blocked(&mut self, what: Seen, number: u8, later: bool) {
+        self.tally.see(what, number == Refusal::Unusable as u8 && later);
+    }
+
+    fn fits(&self) -> bool {
+        let lengths = |buffers: &Buffers| {
+            [buffers.nodes.len(), buffers.labels.len(), buffers.edges.len(), buffers.incumbent.len()]
+        };
+        lengths(&self.twin) == lengths(&self.layout.buffers())
+    }
+
+    /// What a report answered, and the edges' least cells.
+    fn see_bound(&mut self, number: u8) {
+        if !matches!(number, 0 | 14) {
+            return;
+        }
+        let mut every_usable = self.twin.clone();
+        let (mut unusable_least, mut vanished_least) = (false, false);
+        for table in &self.layout.tables {
+            let edges = &self.twin.edges;
+            let of_usable = least(edges, table.iter().filter(|cell| cell.usable()));
+            let of_others = least(edges, table.iter().filter(|cell| cell.usable() && !cell.vanished()));
+            let of_all = least(edges, table.iter());
+            unusable_least |= lower(of_all, of_usable);
+            vanished_least |= lower(of_usable, of_others);
+            // The bound as if every cell were usable, by one that is.
+            if let Some((cell, cost)) = table.iter().find(|cell| cell.usable()).zip(of_all) {
+                every_usable.edges[cell.place] = cost;
+            }
+        }
+        self.tally.see(Seen::Bounded, number == 0 && unusable_least);
+        self.tally.see(Seen::BoundedVanished, number == 0 && vanished_least);
+        if number == Refusal::Bound as u8 && unusable_least {
+            let answer = Twin::report(self.sheet, &every_usable, &mut [0; VALUES]);
+            self.tally.see(Seen::BoundedRefused, answer == 0);
+        }
+    }
+
+    /// One of the records done and the one refused with 13, if they are of kind 1 or 2.
+    fn see_records(&mut self, rng: &mut Rng, number: u8, records: &[u8], counts: &[u64], before: &Buffers) {
+        let (&[done, _], 0 | 12 | 13) = (counts, number) else { return };
+        let (records, _) = records.as_chunks::<RECORD>();
+        let done = done as usize;
+        let first = rng.below(done);
+        let of_edge = |&place: &usize| matches!(records[place][0], 1 | 2);
+        let looked_at = (first..done).chain(0..first).find(of_edge);
+        let refused = Some(done).filter(|place| number == Refusal::Overflow as u8 && of_edge(place));
+        for place in looked_at.into_iter().chain(refused) {
+            let mut lent = before.clone();
+            Twin::run(self.sheet, records[..place].as_flattened(), &mut lent, &mut [0; COUNTS]);
+            self.see_record(records[place], &lent, place == done);
+        }
+    }
+
+    /// A record of kind 1 or 2 and the buffers before it.
+    fn see_record(&mut self, record: [u8; RECORD], lent: &Buffers, refused: bool) {
+        let [kind, node, low, high, share] = record;
+        let edge = usize::from(u16::from_le_bytes([low, high]));
+        let Layout { labels, ends, tables } = &self.layout;
+        let table = &tables[edge];
+        let end = usize::from(ends[edge][1] == node);
+        let (before, from) = labels.split_at(usize::from(node));
+        let start = before.iter().map(Vec::len).sum::<usize>();
+        let costs = &lent.nodes[start..start + from[0].len()];
+
+        let at = |position| table.iter().filter(move |cell| cell.positions[end] == position);
+        let usable_at = |position| at(position).filter(|cell| cell.usable());
+        let of_edge = least(&lent.edges, table.iter().filter(|cell| cell.usable()));
+        let amount = |position: usize| {
+            let distance = match kind {
+                1 => costs.iter().min().map(|least| costs[position] - least),
+                _ => least(&lent.edges, usable_at(position)).zip(of_edge).map(|(own, least)| own - least),
+            };
+            distance.unwrap_or(0) / i64::from(share)
+        };
+        let past = |cost: i64| !(-LIMIT..=LIMIT).contains(&cost);
+        let moved = |cell: &Cell| {
+            let amount = amount(cell.positions[end]);
+            lent.edges[cell.place] + if kind == 1 { amount } else { -amount }
+        };
+        let unusable = || table.iter().filter(|cell| !cell.usable());
+        if refused {
+            let usable_past = table.iter().any(|cell| cell.usable() && past(moved(cell)));
+            let node_past = kind == 2 && (0..costs.len()).any(|k| past(costs[k] + amount(k)));
+            let alone = !usable_past && !node_past && unusable().any(|cell| past(moved(cell)));
+            self.tally.see(if kind == 1 { Seen::RaisedOver } else { Seen::LoweredOver }, alone);
+            return;
+        }
+        let moves = unusable().any(|cell| moved(cell) != lent.edges[cell.place]);
+        if kind == 1 {
+            return self.tally.see(Seen::Raised, moves);
+        }
+        let below_position = |cell: &Cell| {
+            lower(Some(lent.edges[cell.place]), least(&lent.edges, usable_at(cell.positions[end])))
+        };
+        let vanished_below = |cell: &Cell| {
+            let others = at(cell.positions[end]).filter(|other| !other.vanished());
+            cell.vanished() && lower(Some(lent.edges[cell.place]), least(&lent.edges, others))
+        };
+        let below_edge = lower(least(&lent.edges, unusable()), of_edge);
+        let seen = [
+            (Seen::Lowered, moves),
+            (Seen::LeastOfPosition, unusable().any(below_position)),
+            (Seen::LeastOfEdge, below_edge),
+            (Seen::BareNamed, has_bare_position(table, end)),
+            (Seen::LeastVanished, table.iter().any(vanished_below)),
+        ];
+        for (what, occurs) in seen {
+            self.tally.see(what, occurs);
+        }
     }
 
     fn see_run(&mut self, number: u8, records: &[u8], counts: &[u64], before: &[u8]) {
@@ -356,7 +659,7 @@ impl Case<'_> {
 
     /// The same change on both sides.
     fn poke(&mut self, rng: &mut Rng) {
-        match rng.below(9) {
+        match rng.below(10) {
             0 => self.poke_all(rng),
             1 => poke_incumbent(rng, self.sheet, &mut self.twin.incumbent),
             2 => {
@@ -375,6 +678,7 @@ impl Case<'_> {
                 }
             }
             4 => self.poke_vanished(rng),
+            5 => self.poke_unusable(rng),
             _ => {
                 let buffer = rng.below(3);
                 let costs = cost_buffer(&mut self.twin, buffer);
@@ -399,6 +703,18 @@ impl Case<'_> {
             } else {
                 rng.between(-spread, spread)
             };
+        }
+    }
+
+    /// Edge costs at unusable cells: lower than others are or at one of the limits, now and then past it.
+    fn poke_unusable(&mut self, rng: &mut Rng) {
+        let base = rng.pick(&[-5_000_000, -LIMIT, -LIMIT, LIMIT]);
+        let past = rng.percent(10);
+        for cell in self.layout.unusable() {
+            if rng.percent(70) {
+                let cost = base - base.signum() * rng.below(3) as i64;
+                self.twin.edges[cell.place] = if past { cost * 2 } else { cost };
+            }
         }
     }
 

@@ -75,6 +75,27 @@ impl Parts {
         out
     }
 
+    /// Each node's labels.
+    fn labels_by_node(&self) -> Vec<Vec<u8>> {
+        let mut rest = self.labels.as_slice();
+        let by_node = self.degrees.iter().map(|&degree| {
+            let (own, others) = rest.split_at(usize::from(degree));
+            rest = others;
+            own.to_vec()
+        });
+        by_node.collect()
+    }
+
+    /// Those of the pairs whose edge has a cell with different labels, or with 255 twice.
+    fn usable(&self, mut pairs: Vec<[u8; 2]>) -> Vec<[u8; 2]> {
+        let labels = self.labels_by_node();
+        pairs.retain(|pair| {
+            let [low, high] = pair.map(|node| &labels[usize::from(node)]);
+            low.iter().any(|label| high.iter().any(|other| label != other || *label == VANISHED))
+        });
+        pairs
+    }
+
     fn table_cells(&self, [u, v]: [u8; 2]) -> usize {
         usize::from(self.degrees[usize::from(u)]) * usize::from(self.degrees[usize::from(v)])
     }
@@ -141,6 +162,8 @@ fn all_pairs(nodes: usize) -> Vec<[u8; 2]> {
 struct Shape {
     nodes: usize,
     label_limit: usize,
+    /// The nodes choose among so many labels: the fewer, the more the ends of an edge share.
+    choice: usize,
     least_degree: usize,
     most_degree: usize,
     /// At most so many edges.
@@ -153,6 +176,7 @@ struct Shape {
 const FULL: Shape = Shape {
     nodes: MAX_NODES,
     label_limit: MAX_LABELS,
+    choice: usize::MAX,
     least_degree: 1,
     most_degree: MAX_DEGREE,
     edges: MAX_EDGES,
@@ -160,21 +184,29 @@ const FULL: Shape = Shape {
 };
 
 impl Shape {
+    /// With all labels to choose from or with just enough, at times with two.
+    fn draw_sharing(self, rng: &mut Rng) -> Parts {
+        let choice = rng.pick(&[usize::MAX, usize::MAX, self.most_degree, self.most_degree + 3, 2]);
+        Shape { choice, ..self }.draw(rng)
+    }
+
     fn draw(self, rng: &mut Rng) -> Parts {
         let mut parts = Parts { label_limit: self.label_limit, ..Parts::default() };
         let mut universe: Vec<u8> = (0..self.label_limit as u8).collect();
+        rng.shuffle(&mut universe);
+        universe.truncate(self.choice);
         // How many nodes in a hundred have a 255; without other labels every one.
         let vanishing = if self.label_limit == 0 { 100 } else { rng.pick(&[0, 0, 10, 60, 100]) };
         for _ in 0..self.nodes {
             let degree = rng.between(self.least_degree as i64, self.most_degree as i64) as usize;
             let vanishes = rng.percent(vanishing);
             // The 255 takes one of the places, at degree 1 the only one.
-            let others = (degree - usize::from(vanishes)).min(self.label_limit);
+            let others = (degree - usize::from(vanishes)).min(universe.len());
             let mut labels = some_labels(rng, &mut universe, others);
             labels.extend(vanishes.then_some(VANISHED));
             parts.add_node(labels);
         }
-        let mut pairs = all_pairs(self.nodes);
+        let mut pairs = parts.usable(all_pairs(self.nodes));
         rng.shuffle(&mut pairs);
         pairs.truncate(self.edges);
         parts.set_edges(pairs, self.cells);
@@ -186,11 +218,12 @@ impl Shape {
 
 /// A valid sheet of some shape.
 pub fn valid(rng: &mut Rng) -> Parts {
-    match rng.below(13) {
-        0 => Shape { nodes: 0, label_limit: label_limit(rng, 0), ..FULL }.draw(rng),
+    match rng.below(15) {
+        0 => Shape { nodes: 0, label_limit: label_limit(rng, 0), ..FULL }.draw_sharing(rng),
         1..=4 => {
             let label_limit = 1 + rng.below(9);
-            Shape { nodes: rng.below(7), label_limit, most_degree: 4, edges: rng.below(16), ..FULL }.draw(rng)
+            Shape { nodes: rng.below(7), label_limit, most_degree: 4, edges: rng.below(16), ..FULL }
+                .draw_sharing(rng)
         }
         5..=7 => Shape {
             nodes: rng.below(MAX_NODES + 1),
@@ -199,9 +232,9 @@ pub fn valid(rng: &mut Rng) -> Parts {
             edges: rng.below(MAX_EDGES + 1),
             ..FULL
         }
-        .draw(rng),
-        8 => Shape { least_degree: MAX_DEGREE, ..FULL }.draw(rng),
-        9 => Shape { least_degree: 4, most_degree: 4, ..FULL }.draw(rng),
+        .draw_sharing(rng),
+        8 => Shape { least_degree: MAX_DEGREE, ..FULL }.draw_sharing(rng),
+        9 => Shape { least_degree: 4, most_degree: 4, ..FULL }.draw_sharing(rng),
         10 => star(rng),
         11 => Shape {
             nodes: rng.pick(&[1, 2, 9, MAX_NODES]),
@@ -209,9 +242,49 @@ pub fn valid(rng: &mut Rng) -> Parts {
             edges: rng.below(MAX_EDGES + 1),
             ..FULL
         }
-        .draw(rng),
-        _ => Shape { most_degree: 3, ..FULL }.draw(rng),
+        .draw_sharing(rng),
+        12 => Shape { most_degree: 3, ..FULL }.draw_sharing(rng),
+        _ => few_labels(rng),
     }
+}
+
+/// Nodes of degree 1 to 3 that have hardly a label to choose from.
+fn few_labels(rng: &mut Rng) -> Parts {
+    Shape {
+        nodes: rng.between(2, 9) as usize,
+        label_limit: rng.between(1, 3) as usize,
+        most_degree: rng.between(1, 3) as usize,
+        edges: 1 + rng.below(20),
+        ..FULL
+    }
+    .draw_sharing(rng)
+}
+
+/// A sheet that nothing is wrong with but an edge, or several, of one cell with the same label twice.
+fn blocked(rng: &mut Rng) -> Parts {
+    let mut parts = if rng.percent(50) { few_labels(rng) } else { valid(rng) };
+    if parts.degrees.len() < 2 || parts.label_limit == 0 {
+        parts = few_labels(rng);
+    }
+    let mut labels = parts.labels_by_node();
+    let label = rng.below(parts.label_limit) as u8;
+    let low = rng.below(labels.len() - 1);
+    let high = low + 1 + rng.below(labels.len() - 1 - low);
+    labels[low] = vec![label];
+    labels[high] = vec![label];
+    (parts.degrees, parts.labels) = Default::default();
+    labels.into_iter().for_each(|own| parts.add_node(own));
+
+    let pair = [low as u8, high as u8];
+    let mut others = std::mem::take(&mut parts.ends);
+    others.retain(|&other| other != pair);
+    others.truncate(MAX_EDGES - 1);
+    if rng.percent(50) {
+        others = parts.usable(others);
+    }
+    parts.set_edges([vec![pair], others].concat(), MAX_EDGE_CELLS);
+    parts.set_prices(rng, Prices::Wide);
+    parts
 }
 
 fn label_limit(rng: &mut Rng, least: i64) -> usize {
@@ -225,11 +298,11 @@ fn label_limit(rng: &mut Rng, least: i64) -> usize {
 /// One node with an edge to every other: the largest shares.
 fn star(rng: &mut Rng) -> Parts {
     let nodes = rng.pick(&[2, 9, MAX_NODES]);
-    let mut parts = Shape { nodes, most_degree: 8, edges: 0, ..FULL }.draw(rng);
+    let mut parts = Shape { nodes, most_degree: 8, edges: 0, ..FULL }.draw_sharing(rng);
     let hub = rng.pick(&[0, nodes - 1]) as u8;
     let spokes = (0..nodes as u8).filter(|&node| node != hub);
     let ends = spokes.map(|node| [node.min(hub), node.max(hub)]).collect();
-    parts.set_edges(ends, MAX_EDGE_CELLS);
+    parts.set_edges(parts.usable(ends), MAX_EDGE_CELLS);
     parts.set_prices(rng, Prices::Wide);
     parts
 }
@@ -270,8 +343,8 @@ pub fn identity(parts: &Parts) -> Vec<u8> {
 
 /// A sheet with something wrong, most of the time.
 pub fn damaged(rng: &mut Rng) -> Vec<u8> {
-    let mut parts = valid(rng);
-    match rng.below(4) {
+    let mut parts = if rng.percent(30) { blocked(rng) } else { valid(rng) };
+    match rng.below(5) {
         0 => damage_bytes(rng, parts.bytes()),
         1 => damage_trailer(rng, parts.bytes()),
         2 => {
@@ -282,6 +355,7 @@ pub fn damaged(rng: &mut Rng) -> Vec<u8> {
                 parts.bytes()
             }
         }
+        3 => blocked(rng).bytes(),
         _ => overfull(rng),
     }
 }

@@ -1,5 +1,5 @@
-//! The rules of document 01 with request 1 of document 02 in plain Rust: the opponent of the proved
-//! library.
+//! The rules of document 01 with requests 1 and 2 of document 02 in plain Rust: the opponent of the
+//! proved library.
 //!
 //! Every public function is lent slices, reads the sheet once and makes the document's checks in the
 //! document's order.
@@ -47,6 +47,7 @@ pub enum Refusal {
     Record,
     Overflow,
     Bound,
+    Unusable,
 }
 
 /// A readable sheet: its sections as parts of the bytes lent, and where each node and edge begins.
@@ -102,6 +103,9 @@ pub fn read(bytes: &[u8]) -> Result<Sheet<'_>, Refusal> {
     }
     if !prices_in_range(node_prices) || !prices_in_range(edge_prices) {
         return Err(Refusal::Price);
+    }
+    if degrees.contains(&1) && !edges_usable(degrees, labels, &node_starts, ends) {
+        return Err(Refusal::Unusable);
     }
     Ok(Sheet { label_limit, degrees, labels, node_prices, ends, edge_prices, node_starts, edge_starts })
 }
@@ -181,6 +185,16 @@ fn prices_in_range(prices: &[[u8; 4]]) -> bool {
     prices.iter().fold(true, |all, &bytes| all & range.contains(&i32::from_le_bytes(bytes)))
 }
 
+/// Whether every edge has a usable cell, one whose labels differ or are 255. Labels rise within a node, so
+/// that only an edge between two nodes of degree 1 can be without one.
+fn edges_usable(degrees: &[u8], labels: &[u8], node_starts: &[u16; MAX_NODES], ends: &[[u8; 2]]) -> bool {
+    let first = |node: usize| labels[usize::from(node_starts[node])];
+    ends.iter().all(|ends| {
+        let [u, v] = ends.map(usize::from);
+        degrees[u] > 1 || degrees[v] > 1 || first(u) != first(v) || first(u) == VANISHED
+    })
+}
+
 fn price(bytes: [u8; 4]) -> i64 {
     i64::from(i32::from_le_bytes(bytes))
 }
@@ -224,6 +238,14 @@ impl Sheet<'_> {
         Table { cells: start..start + rows * columns, columns }
     }
 
+    fn label_sets(&self) -> LabelSets {
+        let mut sets = [LabelSet::EMPTY; MAX_NODES];
+        for (node, set) in sets[..self.degrees.len()].iter_mut().enumerate() {
+            self.moved_labels(node).iter().for_each(|&label| set.add(label));
+        }
+        sets
+    }
+
     fn check_lengths(
         &self,
         nodes: &[i64],
@@ -247,7 +269,7 @@ impl Sheet<'_> {
         if !incumbent.is_empty() && incumbent.iter().all(|&position| position == UNSET) {
             return Ok(None);
         }
-        let mut taken = Taken::NONE;
+        let mut taken = LabelSet::EMPTY;
         for (node, &position) in incumbent.iter().enumerate() {
             let Some(&label) = self.labels[self.cells_of(node)].get(usize::from(position)) else {
                 return Err(Refusal::Incumbent);
@@ -275,36 +297,104 @@ impl Sheet<'_> {
 
     fn bound(&self, nodes: &[i64], labels: &[i64], edges: &[i64]) -> i64 {
         let mut label_least = [0_i64; MAX_LABELS];
-        for (&label, &cost) in zip(self.labels, labels) {
-            // A 255 has no place: its label cost enters no sum.
-            if let Some(least) = label_least.get_mut(usize::from(label)) {
+        let mut sets = [LabelSet::EMPTY; MAX_NODES];
+        for (node, set) in sets[..self.degrees.len()].iter_mut().enumerate() {
+            let mut own = LabelSet::EMPTY;
+            // Not a 255: its label cost enters no sum.
+            for (&label, &cost) in zip(self.moved_labels(node), &labels[self.cells_of(node)]) {
+                let least = &mut label_least[usize::from(label)];
                 *least = cost.min(*least);
+                own.add(label);
             }
+            *set = own;
         }
         let nodes = (0..self.degrees.len()).map(|node| least(&nodes[self.cells_of(node)]));
-        let edges = (0..self.ends.len()).map(|edge| least(&edges[self.table(edge).cells]));
+        let edges = (0..self.ends.len()).map(|edge| {
+            let Table { cells, columns } = self.table(edge);
+            let unusable = Unusable::of(self.ends[edge], &sets);
+            if unusable.is_empty() {
+                least(&edges[cells])
+            } else {
+                least_usable(&edges[cells], columns, unusable)
+            }
+        });
         nodes.sum::<i64>() + edges.sum::<i64>() + label_least.iter().sum::<i64>()
     }
 }
 
-/// The labels used up by a labelling, a bit for each.
-struct Taken(u64);
+/// A set of labels, a bit for each. A 255 is in none: it is never used up and makes no cell unusable.
+#[derive(Clone, Copy)]
+struct LabelSet(u64);
 
-impl Taken {
-    const NONE: Taken = Taken(0);
+/// The labels of each node.
+type LabelSets = [LabelSet; MAX_NODES];
 
-    /// None for a 255, which is never used up.
+impl LabelSet {
+    const EMPTY: Self = LabelSet(0);
+
     fn bit(label: u8) -> u64 {
         1_u64.checked_shl(u32::from(label)).unwrap_or(0)
     }
 
-    fn has(&self, label: u8) -> bool {
+    fn has(self, label: u8) -> bool {
         self.0 & Self::bit(label) != 0
     }
 
     fn add(&mut self, label: u8) {
         self.0 |= Self::bit(label);
     }
+}
+
+/// The cells of an edge's table that no matching can use, by row and column: those of the labels that both
+/// ends have. There is at most one in a row or column.
+#[derive(Clone, Copy)]
+struct Unusable {
+    rows: u64,
+    columns: u64,
+    /// The labels whose cells are still to come.
+    shared: u64,
+}
+
+impl Unusable {
+    fn of(ends: [u8; 2], sets: &LabelSets) -> Self {
+        let [rows, columns] = ends.map(|node| sets[usize::from(node)].0);
+        Unusable { rows, columns, shared: rows & columns }
+    }
+
+    fn is_empty(&self) -> bool {
+        self.shared == 0
+    }
+}
+
+impl Iterator for Unusable {
+    type Item = (usize, usize);
+
+    fn next(&mut self) -> Option<(usize, usize)> {
+        let less = self.shared.checked_sub(1)?;
+        // Labels rise within a node: a label's position is the number of those below it.
+        let below = less & !self.shared;
+        let position = |labels: u64| (labels & below).count_ones() as usize;
+        self.shared &= less;
+        Some((position(self.rows), position(self.columns)))
+    }
+}
+
+/// The least of a table's usable cells: that of all, unless an unusable one is as low. Not inlined, so that
+/// the loop over the edges stays short where their ends share no label.
+#[inline(never)]
+fn least_usable(table: &[i64], columns: usize, unusable: Unusable) -> i64 {
+    let places = unusable.map(|(row, column)| columns * row + column);
+    let minimum = least(table);
+    if places.clone().all(|place| table[place] > minimum) {
+        return minimum;
+    }
+    let mut start = 0;
+    let before = places.fold(i64::MAX, |minimum, place| {
+        let stretch = &table[start..place];
+        start = place + 1;
+        minimum.min(least(stretch))
+    });
+    before.min(least(&table[start..]))
 }
 
 /// i64::MAX for an empty slice. Four minima side by side: the plain fold is vectorized badly where the
@@ -435,7 +525,7 @@ pub fn run(
     let (records, []) = records.as_chunks::<RECORD>() else {
         return refused(Refusal::ListLength);
     };
-    Run { sheet: &sheet, nodes, labels, edges, incumbent, kept, holders: None }.records(records)
+    Run { sheet: &sheet, nodes, labels, edges, incumbent, kept, holders: None, sets: None }.records(records)
 }
 
 /// The cells of each label below the limit: label s has cells[starts[s]..starts[s + 1]].
@@ -484,6 +574,8 @@ struct Run<'a> {
     kept: Option<i64>,
     /// Made at the first record of kind 4.
     holders: Option<Holders>,
+    /// Made at the first record of kind 2.
+    sets: Option<LabelSets>,
 }
 
 impl Run<'_> {
@@ -570,12 +662,19 @@ impl Run<'_> {
         let mut amounts = [i64::MAX; MAX_DEGREE];
         let amounts = &mut amounts[..node.len()];
         leasts(table, columns, by_row, amounts);
+        let sheet = self.sheet;
+        let sets = self.sets.get_or_insert_with(|| sheet.label_sets());
+        let unusable = Unusable::of(sheet.ends[edge], sets);
+        let passed = !unusable.is_empty() && pass_over(table, columns, by_row, unusable, amounts);
         let least = least(amounts);
         for amount in &mut *amounts {
             *amount = portion(*amount - least, share);
         }
-        // The cells fall toward the edge's least and stay in range; only the node costs rise.
-        if zip(&*node, &*amounts).fold(0, |signs, (&cost, &amount)| signs | excess(cost + amount)) < 0 {
+        // The node costs rise. The cells fall toward the edge's least and stay in range, but for unusable
+        // ones lower than the usable ones of their position.
+        if zip(&*node, &*amounts).fold(0, |signs, (&cost, &amount)| signs | excess(cost + amount)) < 0
+            || (passed && !fall_in_range(table, columns, by_row, unusable, amounts))
+        {
             return Err(Refusal::Overflow);
         }
         shift(table, columns, by_row, amounts, i64::wrapping_sub);
@@ -630,12 +729,12 @@ impl Run<'_> {
         let keys = &mut keys[..self.nodes.len()];
         keys.copy_from_slice(self.nodes);
         let mut labelling = [0; MAX_NODES];
-        let mut taken = Taken::NONE;
+        let mut taken = LabelSet::EMPTY;
         let mut edge = 0;
         for u in 0..sheet.degrees.len() {
             let cells = sheet.cells_of(u);
             let labels = &sheet.labels[cells.clone()];
-            let Some(position) = least_free(&keys[cells], labels, &taken) else {
+            let Some(position) = least_free(&keys[cells], labels, taken) else {
                 return false;
             };
             taken.add(labels[position]);
@@ -713,8 +812,50 @@ fn leasts(table: &[i64], columns: usize, by_row: bool, leasts: &mut [i64]) {
     }
 }
 
+/// Makes of the least cell at each position the least usable one. Answers whether any was not usable: an
+/// unusable cell that lies higher than a usable one of its position falls no lower than that.
+fn pass_over(table: &[i64], columns: usize, by_row: bool, unusable: Unusable, leasts: &mut [i64]) -> bool {
+    let mut passed = false;
+    for (row, column) in unusable {
+        let position = if by_row { row } else { column };
+        let start = columns * row;
+        if table[start + column] > leasts[position] {
+            continue;
+        }
+        passed = true;
+        let (above, rest) = table.split_at(start);
+        let (own, below) = rest.split_at(columns);
+        leasts[position] = if by_row {
+            least(&own[..column]).min(least(&own[column + 1..]))
+        } else {
+            let others = above.chunks_exact(columns).chain(below.chunks_exact(columns));
+            others.fold(i64::MAX, |least, row| row[column].min(least))
+        };
+        // The only cell at its position, and then the only unusable one: the edge's least makes its amount 0.
+        if leasts[position] == i64::MAX {
+            leasts[position] = least(leasts);
+        }
+    }
+    passed
+}
+
+/// Whether the unusable cells are in range after they fall by their positions' amounts.
+#[cold]
+fn fall_in_range(
+    table: &[i64],
+    columns: usize,
+    by_row: bool,
+    mut unusable: Unusable,
+    amounts: &[i64],
+) -> bool {
+    unusable.all(|(row, column)| {
+        let amount = amounts[if by_row { row } else { column }];
+        excess(table[columns * row + column] - amount) >= 0
+    })
+}
+
 /// The position with the least key among labels not taken; the lowest among equals.
-fn least_free(keys: &[i64], labels: &[u8], taken: &Taken) -> Option<usize> {
+fn least_free(keys: &[i64], labels: &[u8], taken: LabelSet) -> Option<usize> {
     let mut best = None;
     for (position, (&key, &label)) in zip(keys, labels).enumerate() {
         if !taken.has(label) && best.is_none_or(|(_, least)| key < least) {

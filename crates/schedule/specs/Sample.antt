@@ -4,6 +4,7 @@ use Prim.Native.Nat.{ℕ, _*_}
 use Prim.Native.String.{String}
 use lib.ListN.{replicate, set}
 use Rattle.instance.specs.Sample.{sample, trailerAlone}
+use Rattle.rules.specs.Sample.{clashing}
 use Rattle.schedule.specs.Sweep.{Entry, entry, bytes}
 use Rattle.schedule.specs.Written.{Written, written, sweepOf}
 
@@ -64,4 +65,5 @@ cases =
     ∷ record { name = "no such direction, ahead of the length"; value = sweepOf sample 2 (lent 6); stated = written (lent 6) 12 }
     ∷ record { name = "a record too few"; value = sweepOf sample 0 (lent 6); stated = written (lent 6) 8 }
     ∷ record { name = "a sheet that is refused, ahead of the direction"; value = sweepOf [] 2 (lent 0); stated = written (lent 0) 1 }
+    ∷ record { name = "an edge without a usable cell comes ahead of the direction and of the length"; value = sweepOf clashing 2 (lent 1); stated = written (lent 1) 15 }
     ∷ []
