@@ -23,9 +23,13 @@ fn edge_usable(sheet: &[u8], n: usize, at: usize, starts: &[usize; 64], e: usize
 {
     let u = wide(sheet[at + 2 * e]);
     let v = wide(sheet[at + 2 * e + 1]);
-    let low = first_label(sheet, n, starts, u);
-    let high = first_label(sheet, n, starts, v);
-    (1 < sheet[u]) | (1 < sheet[v]) | usable(low, high)
+    if 1 < sheet[u] {
+        return true;
+    }
+    if 1 < sheet[v] {
+        return true;
+    }
+    usable(first_label(sheet, n, starts, u), first_label(sheet, n, starts, v))
 }
 
 // Whether each does. It does not stop at the first that does not.

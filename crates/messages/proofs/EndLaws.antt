@@ -183,7 +183,6 @@ module _ (s : List ℕ) (r : refusalOf s ≡ 0) where
       pub ends-of : (b : Bool) → Ends b (own b) (other b) cells
       ends-of b = record {
         shape = subst (λ (w : ℕ). Shape w (cond b (length (own b)) (length (other b))) cells) (sym (width-is b)) (subst (λ (t : ℕ). Shape d t cells) (sym (height-is b)) shape-of);
-        ownRises = by-cond Rising b (λ _. labels-rise low-in) (λ _. labels-rise high-in);
-        otherRises = by-cond Rising b (λ _. labels-rise high-in) (λ _. labels-rise low-in);
+        rises = by-cond Rising b (λ _. labels-rise high-in) (λ _. labels-rise low-in);
         some = some-cell b;
       }

@@ -25,7 +25,7 @@ use Rattle.integers.proofs.Rows.{within-map}
 use Rattle.index.proofs.Lists.{select-next, select-past}
 use Rattle.instance.specs.Instance.{usable}
 use Rattle.rules.specs.Calls.{costLimit}
-use Rattle.messages.specs.Clash.{Rising, Upto, Sought, Skips}
+use Rattle.messages.specs.Clash.{Skips}
 use Rattle.messages.specs.EdgeMessage.{positionIn, widthOf, usableIn, usableOf, placesAt, usableCells, cellsAt, edgeAmounts, Shape, Above, Ends, over, lineAt, unbounded, leastAt, turnedLeast}
 use Rattle.messages.proofs.RowLaws.{least-of-within}
 use Rattle.messages.proofs.OverLaws.{over-at, over-take, over-again, over-zeros}
@@ -136,16 +136,6 @@ pub sized : (b : Bool) {own other : List ℕ} {l : List ℤ} → Ends b own othe
     → Shape w h l × (k < cond b h w)
 sized true e p q g = rw (p, q) (e .shape, g)
 sized false e p q g = rw (p, q) (e .shape, g)
-
--- ---- the walk along the other end's labels: each label of the end goes on where the one before it came to
-
-pub upto-none : (labels : List ℕ) (label : ℕ) → Upto labels label 0
-upto-none labels label = record { inside = omega arith; before = λ p g. absurd (omega arith) }
-
-pub upto-more : (own : List ℕ) {other : List ℕ} (k : ℕ) {at : ℕ} → Rising own → Sought other (getD own k 0) at → k + 1 < length own → Upto other (getD own (k + 1) 0) at
-upto-more own k r s h =
-    let e : k + 1 ≡ suc k = omega arith in
-    record { inside = s .upto .inside; before = λ p g. rw e (omega (arith, s .upto .before p g, r k (omega arith))) }
 
 -- ---- the least of a position is above the least of all, which is that of them
 

@@ -23,10 +23,9 @@ use Rattle.integers.proofs.Ranges.{range-add, range-part, select-append, select
 use Rattle.integers.proofs.Rows.{within-map}
 use Rattle.instance.specs.Instance.{usable}
 use Rattle.rules.specs.Calls.{costLimit}
-use Rattle.messages.specs.Clash.{Upto, Sought, Skips}
+use Rattle.messages.specs.Clash.{Skips}
 use Rattle.messages.specs.EdgeMessage.{usableIn, usableOf, usableCells, unbounded, Ends}
 use Rattle.messages.proofs.RowLaws.{least-parts}
-use Rattle.messages.proofs.ClashLaws.{upto-none, upto-later}
 
 -- ---- the least with a start value
 
@@ -122,17 +121,16 @@ usable-some {b} {own} {other} {cells} e =
     some-length (here e) = omega arith
     some-length (there m) = omega arith
 
--- a walk over the rows, of which k are behind: the next begins at `row`, and its label stands at `at` or further on
-pub record Passing (low high : List ℕ) (cells : List ℤ) (best : ℤ) (from at row k : ℕ) : Type 0 where
+-- a walk over the rows, of which k are behind: the next begins at `row`
+pub record Passing (low high : List ℕ) (cells : List ℤ) (best : ℤ) (from row k : ℕ) : Type 0 where
   pub inside : k ≤ length low
   pub start : row ≡ k * length high
   pub gathered : Gathered (usableIn true low high) unbounded cells best from row
-  pub next : k < length low → Upto high (getD low k 0) at
 
-pub passing-none : (low high : List ℕ) (cells : List ℤ) → Passing low high cells unbounded 0 0 0 0
-passing-none low high cells = record { inside = omega arith; start = omega arith; gathered = gathered-none (usableIn true low high) unbounded cells; next = λ _. upto-none }
+pub passing-none : (low high : List ℕ) (cells : List ℤ) → Passing low high cells unbounded 0 0 0
+passing-none low high cells = record { inside = omega arith; start = omega arith; gathered = gathered-none (usableIn true low high) unbounded cells }
 
-module _ {low high : List ℕ} {cells : List ℤ} {best : ℤ} {from at row k : ℕ} (e : Ends true low high cells) (g : Passing low high cells best from at row k) where
+module _ {low high : List ℕ} {cells : List ℤ} {best : ℤ} {from row k : ℕ} (e : Ends true low high cells) (g : Passing low high cells best from row k) where
   pub passing-done : length low ≤ k → Within costLimit cells → leastFrom best (take (length cells - from) (drop from cells)) ≡ leastOf (usableCells true low high cells)
   passing-done h w =
       let q : k ≡ length low = omega (arith, g .inside) in
@@ -141,7 +139,7 @@ module _ {low high : List ℕ} {cells : List ℤ} {best : ℤ} {from at row k : 
       ∙ least-bounded (usableCells true low high cells) (usable-some e) (within-map costLimit (λ j. getD cells j (pos 0)) (usableOf true low high (length cells)) w)
 
   -- the next row, which lies in the table: what is unusable in it, if anything, is the cell at `skip`
-  module _ {at′ skip : ℕ} (h : k < length low) (m : row + length high ≤ length cells) (s : Sought high (getD low k 0) at′) (z : Skips high (getD low k 0) skip) where
+  module _ {skip : ℕ} (h : k < length low) (m : row + length high ≤ length cells) (z : Skips high (getD low k 0) skip) where
     row-test : (j : ℕ) → row ≤ j → j < row + length high → usableIn true low high j ≡ not (eqb (j - row) skip)
     row-test j a b =
         let p = j - row in
@@ -152,20 +150,14 @@ module _ {low high : List ℕ} {cells : List ℤ} {best : ℤ} {from at row k : 
     row-clear j a b d = row-test j a b ∙ ap not (ne-eqb (j - row) skip (λ q. d (omega arith)))
 
     passing-more : {best′ : ℤ} {from′ : ℕ} → Gathered (usableIn true low high) unbounded cells best′ from′ (row + length high)
-        → Passing low high cells best′ from′ at′ (row + length high) (k + 1)
-    passing-more f =
-        record {
-          inside = omega arith;
-          start = omega (arith, g .start);
-          gathered = f;
-          next = λ l. let q : k + 1 ≡ suc k = omega arith in let r = e .ownRises k (omega arith) in let n = ap (λ (i : ℕ). getD low i 0) q in upto-later s (omega arith);
-        }
+        → Passing low high cells best′ from′ (row + length high) (k + 1)
+    passing-more f = record { inside = omega arith; start = omega (arith, g .start); gathered = f }
 
-    pub passing-clear : length high ≤ skip → Passing low high cells best from at′ (row + length high) (k + 1)
+    pub passing-clear : length high ≤ skip → Passing low high cells best from (row + length high) (k + 1)
     passing-clear l = passing-more (gathered-clear (g .gathered) (omega arith) m (λ j a b. row-clear j a b (λ q. omega arith)))
 
     pub passing-skip : skip < length high → {best′ : ℤ} → best′ ≡ leastFrom best (take (row + skip - from) (drop from cells))
-        → Passing low high cells best′ (row + skip + 1) at′ (row + length high) (k + 1)
+        → Passing low high cells best′ (row + skip + 1) (row + length high) (k + 1)
     passing-skip l t =
         let before = gathered-clear (g .gathered) {n = row + skip} (omega arith) (omega arith) (λ j a b. row-clear j a (omega arith) (λ q. omega arith)) in
         let here = row-test (row + skip) (omega arith) (omega arith) ∙ ap not (eq-eqb (row + skip - row) skip (omega arith)) in

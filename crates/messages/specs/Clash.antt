@@ -3,7 +3,7 @@
 use mathlib.Core.Path.{_≡_}
 use mathlib.Core.Bool.{not}
 use mathlib.Core.List.{List}
-use Prim.Native.Nat.{ℕ, suc, _≤_, _<_}
+use Prim.Native.Nat.{ℕ, suc, _/_, _%_, _^_, _≤_, _<_}
 use lib.Dec.{eqb}
 use lib.ListN.{length, getD}
 use Rattle.instance.specs.Instance.{usable}
@@ -12,17 +12,14 @@ use Rattle.instance.specs.Instance.{usable}
 abbrev pub Rising : List ℕ → Type 0
 Rising l = (i : ℕ) → suc i < length l → getD l i 0 < getD l (suc i) 0
 
--- all labels before a place are below a label
-pub record Upto (labels : List ℕ) (label at : ℕ) : Type 0 where
-  pub inside : at ≤ length labels
-  pub before : (p : ℕ) → p < at → getD labels p 0 < label
-
--- and the one there, if any, is not
-pub record Sought (labels : List ℕ) (label at : ℕ) : Type 0 where
-  pub upto : Upto labels label at
-  pub here : at < length labels → label ≤ getD labels at 0
-
 -- the one place at which a label meets an unusable cell, or the number of labels where there is none
 pub record Skips (labels : List ℕ) (label skip : ℕ) : Type 0 where
   pub inside : skip ≤ length labels
   pub passed : (p : ℕ) → p < length labels → usable label (getD labels p 0) ≡ not (eqb p skip)
+
+-- a number that has a bit for each of some labels, by the label modulo 64: where it lacks the bit of a label, that is none of them
+abbrev pub bitAt : ℕ → ℕ
+bitAt label = 2 ^ (label % 64)
+
+abbrev pub Masks : List ℕ → ℕ → Type 0
+Masks labels mask = (p : ℕ) → p < length labels → mask / bitAt (getD labels p 0) % 2 ≡ 1

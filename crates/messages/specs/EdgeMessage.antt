@@ -106,9 +106,8 @@ leastAt byRow own other cells k = leastFrom unbounded (cellsAt byRow own other c
 unfoldable pub turnedLeast : ℤ → ℤ → ℕ → ℤ
 turnedLeast cost low r = cond (ltZ cost unbounded) (negℤ (shareDown (cost -ℤ low) r)) (pos 0)
 
--- an edge's table with the labels of its ends, which rise; a cell of it is usable
+-- an edge's table with the labels of its ends, of which the other's rise; a cell of it is usable
 pub record Ends (byRow : Bool) (own other : List ℕ) (cells : List ℤ) : Type 0 where
   pub shape : Shape (widthOf byRow own other) (cond byRow (length own) (length other)) cells
-  pub ownRises : Rising own
-  pub otherRises : Rising other
+  pub rises : Rising other
   pub some : (j : ℕ) × (j < length cells) × (usableIn byRow own other j ≡ true)

@@ -1,6 +1,6 @@
 // Messages between one node's costs and one edge's table: what is given, whether both stay within the limit, and the moves. Document 01, kinds 1 and 2.
 use crate::clash::clash;
-use crate::clash::seek;
+use crate::clash::mask_of;
 use crate::rows::OUT;
 use crate::rows::UNBOUNDED;
 use crate::rows::all_half;
@@ -130,20 +130,18 @@ fn either(by_row: bool, row: usize, column: usize) -> usize
     if by_row { row } else { column }
 }
 
-// The least usable cell of each position of an edge's end. The labels of both ends rise, so that one walk along the other end's finds each clash.
+// The least usable cell of each position of an edge's end.
 fn least_by(cells: &[i64], own: &[u8], other: &[u8], by_row: bool) -> [i64; 16]
     requires { ⌜ Ends «by_row» (now own) (now other) (now cells) ⌝ }
     ensures { λ r. ⌜ r ≡ over (leastAt «by_row» (now (own .entry)) (now (other .entry)) (now (cells .entry))) (length (now (own .entry))) (replicate 16 (pos 0)) ⌝ }
 {
     let width = either(by_row, other.len(), own.len());
     let height = either(by_row, own.len(), other.len());
+    let mask = mask_of(other);
     let mut least = [0; 16];
-    let mut at = 0;
     let mut k = 0;
     while k < own.len() {
-        let label = own[k];
-        at = seek(other, label, at);
-        let skip = clash(other, label, at);
+        let skip = clash(other, mask, own[k]);
         least[k] = low_at(cells, width, height, by_row, k, skip);
         k += 1;
     }

@@ -1,6 +1,6 @@
 // The least usable cell of an edge. Document 02, wish 2.
 use crate::clash::clash;
-use crate::clash::seek;
+use crate::clash::mask_of;
 use crate::rows::UNBOUNDED;
 use crate::rows::least;
 ghost use mathlib.Core.Path.{_≡_};
@@ -17,15 +17,13 @@ pub(crate) fn usable_least(cells: &[i64], low: &[u8], high: &[u8]) -> i64
     ensures { λ r. ⌜ r ≡ leastOf (usableCells true (now (low .entry)) (now (high .entry)) (now (cells .entry))) ⌝ }
 {
     let width = high.len();
+    let mask = mask_of(high);
     let mut best = UNBOUNDED;
     let mut from = 0;
-    let mut at = 0;
     let mut row = 0;
     let mut k = 0;
     while k < low.len() {
-        let label = low[k];
-        at = seek(high, label, at);
-        let skip = clash(high, label, at);
+        let skip = clash(high, mask, low[k]);
         if skip < width {
             let to = row + skip;
             best = least(&cells[from..to], best);
