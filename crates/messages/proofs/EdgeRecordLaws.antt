@@ -1,12 +1,12 @@
 -- Records of kinds 1 and 2: the amounts by position are the rules' amounts by place, so that what the code leaves of a row and a table is what the rules say.
 -- Assumes nothing.
-use mathlib.Core.Path.{_≡_, refl, sym, ap, ap₂, _∙_, subst}
+use mathlib.Core.Path.{_≡_, refl, sym, ap, ap₂, _∙_, transport}
 use mathlib.Core.Bool.{Bool, true, false, cond, _&&_}
 use mathlib.Core.List.{List, _++_, map}
-use mathlib.Core.Logic.{_⊎_}
+use mathlib.Core.Logic.{_⊎_, ⊎-elim}
 use Prim.Native.Nat.{ℕ, _+_, _-_, _*_, _^_, _≤_, _<_}
 use native.Mathlib.Omega.{arith}
-use borrow.Author.Tests.{lt-ltb}
+use borrow.Author.Tests.{eqb-true, eqb-false, lt-ltb}
 use lib.Dec.{eqb, ltb}
 use lib.ListN.{length, getD, take, drop}
 use lib.IntN.{ℤ, pos, negℤ, _-ℤ_}
@@ -34,10 +34,10 @@ use Rattle.messages.specs.declared.view.View.{View}
 use Rattle.messages.specs.Lent.{lent}
 use Rattle.messages.specs.Seen.{labelsOf}
 use Rattle.messages.specs.Step.{Settled, settle, settled}
-use Rattle.messages.specs.EdgeMessage.{positionIn, nodeAmounts, widthOf, usableOf, usableCells, cellsAt, edgeAmounts, movedRow, movedCells, Shape, Ends}
-use Rattle.messages.specs.EdgeRecord.{EdgeMove, edgeMove, edgeAmount, givenRow, givenCells, movedBy, edgeMoved, EdgeLegal, Joined, Between, amountsOf, partsMoved}
+use Rattle.messages.specs.EdgeMessage.{positionIn, nodeAmounts, widthOf, usableOf, usableCells, cellsAt, edgeAmounts, movedRow, movedCells, Ends}
+use Rattle.messages.specs.EdgeRecord.{EdgeMove, edgeMove, edgeAmount, givenRow, givenCells, movedBy, edgeMoved, EdgeLegal, Joined, amountsOf, partsMoved}
 use Rattle.messages.proofs.SheetLaws.{proper, start-is, table-is}
-use Rattle.messages.proofs.EndLaws.{end-is, end-below, labels-length, width-is, usable-places, cells-length, cells-at, usable-below, usable-cells, shape-of, ends-of}
+use Rattle.messages.proofs.EndLaws.{end-is, end-below, labels-length, width-is, both-sizes, usable-places, cells-length, cells-at, usable-below, usable-cells, ends-of}
 use Rattle.messages.proofs.EdgeLaws.{node-within, edge-within}
 
 -- the buffers once both lists are replaced, and what is answered
@@ -45,9 +45,9 @@ abbrev pub edgeSettled : Buffers → EdgeMove → Settled
 edgeSettled b m = settle (lent (m .nodes) (b .labels) (m .edges) (b .incumbent)) 0 (m .refusal)
 
 -- no amount passes twice the limit
-pub amounts-within : {row cells : List ℤ} {width height : ℕ} → Joined row cells width height → (turned byRow : Bool) (low high : List ℕ) (r : ℕ) → Within (2 ^ 41) (amountsOf turned byRow low high row cells r)
-amounts-within {row} {cells} j true byRow low high r = edge-within byRow (cond byRow low high) (cond byRow high low) cells r (j .cellRange)
-amounts-within {row} {cells} j false byRow low high r = node-within row r (j .rowRange)
+pub amounts-within : {row cells : List ℤ} {byRow : Bool} {own other : List ℕ} → Joined row cells byRow own other → (turned : Bool) (r : ℕ) → Within (2 ^ 41) (amountsOf turned byRow own other row cells r)
+amounts-within {row} {cells} {byRow} {own} {other} j true r = edge-within byRow own other cells r (j .cellRange)
+amounts-within {row} {cells} j false r = node-within row r (j .rowRange)
 
 -- the row from a to b and the table from c to d put back
 abbrev pub putBack : List ℤ → List ℤ → ℕ → ℕ → ℕ → ℕ → EdgeMove → EdgeMove
@@ -125,7 +125,7 @@ module _ (s : List ℕ) (readable : refusalOf s ≡ 0) where
     -- kind 1 or kind 2
     module _ (turned : Bool) where
       abbrev amounts : List ℤ
-      amounts = amountsOf turned byRow (labelsOf s (I .low e)) (labelsOf s (I .high e)) row cells r
+      amounts = amountsOf turned byRow own other row cells r
 
       abbrev given : ℕ → ℤ
       given = edgeAmount I nodes edges turned u e r
@@ -195,8 +195,8 @@ module _ {s : List ℕ} {v : View} {starts tables : List ℕ} {nodes edges : Lis
   pub legal-edge : e < 256
   legal-edge = omega (arith, g .edge, sound .edgesFew)
 
-  -- what the code reads
-  module _ {lo deg : ℕ} {low high : List ℕ} (el : lo ≡ J .low e) (es : low ≡ labelsOf s (J .low e)) (eh : high ≡ labelsOf s (J .high e)) (ed : deg ≡ J .degree u) where
+  -- what the code reads: the labels of u, those of the other end, and whether u is the lower one
+  module _ {b : Bool} {own other : List ℕ} (eb : b ≡ eqb u (J .low e)) (eo : own ≡ labelsOf s u) (et : other ≡ labelsOf s (cond b (J .high e) (J .low e))) where
     abbrev a : ℕ
     a = getD starts u 0
 
@@ -212,64 +212,67 @@ module _ {s : List ℕ} {v : View} {starts tables : List ℕ} {nodes edges : Lis
     ec : c ≡ table J e
     ec = table-is s (g .seen .tabled) readable (g .edge)
 
-    ew : length high ≡ J .degree (J .high e)
-    ew = ap length eh ∙ labels-length s readable (sound .inside e (g .edge))
+    ed : length own ≡ J .degree u
+    ed = ap length eo ∙ labels-length s readable (g .node)
 
-    et : length low ≡ J .degree (J .low e)
-    et = ap length es ∙ labels-length s readable (low-inside sound (g .edge))
+    -- by the ends of the edge
+    own-is : own ≡ cond (eqb u (J .low e)) (labelsOf s (J .low e)) (labelsOf s (J .high e))
+    own-is =
+        eo ∙ by-cond (λ (l : List ℕ). labelsOf s u ≡ l) (eqb u (J .low e)) (λ q. ap (labelsOf s) (eqb-true u (J .low e) q))
+        (λ q. ⊎-elim (λ (z : u ≡ J .low e). absurd (eqb-false u (J .low e) q z)) (λ (z : u ≡ J .high e). ap (labelsOf s) z) (g .touches))
 
-    size : length low * length high ≡ tableSize J e
-    unfolding tableSize
-    size = ap₂ _*_ et ew
+    other-is : other ≡ cond (eqb u (J .low e)) (labelsOf s (J .high e)) (labelsOf s (J .low e))
+    other-is = et ∙ of-cond (labelsOf s) b (J .high e) (J .low e) ∙ ap (λ (t : Bool). cond t (labelsOf s (J .high e)) (labelsOf s (J .low e))) eb
 
-    pub row-ends : a + deg ≤ length nodes
-    row-ends = omega (arith, ea, row-inside J (g .node), g .nodeCosts .size)
+    ew : widthOf b own other ≡ J .degree (J .high e)
+    ew = (λ j. widthOf (eb j) (own-is j) (other-is j)) ∙ width-is s readable (g .edge) (eqb u (J .low e))
 
-    pub table-ends : c + length low * length high ≤ length edges
+    size : length own * length other ≡ tableSize J e
+    size = ap₂ (λ (x y : List ℕ). length x * length y) own-is other-is ∙ both-sizes s readable (g .edge) (eqb u (J .low e))
+
+    pub row-ends : a + length own ≤ length nodes
+    row-ends = omega (arith, ea, ed, row-inside J (g .node), g .nodeCosts .size)
+
+    pub table-ends : c + length own * length other ≤ length edges
     table-ends = omega (arith, ec, size, table-inside J (g .edge), g .edgeCosts .size)
 
-    pub row-room : a + deg ≤ 1_024
+    pub row-room : a + length own ≤ 1_024
     row-room = omega (arith, row-ends, positions-few sound, g .nodeCosts .size)
 
-    pub table-room : c + length low * length high ≤ 4_096
+    pub table-room : c + length own * length other ≤ 4_096
     table-room = omega (arith, table-ends, sound .cellsFew, g .edgeCosts .size)
 
-    row-size : a + deg - a ≡ deg
+    row-size : a + length own - a ≡ length own
     row-size = omega arith
 
-    table-size : c + length low * length high - c ≡ length low * length high
+    table-size : c + length own * length other - c ≡ length own * length other
     table-size = omega arith
 
     abbrev cut : List ℤ
-    cut = part edges c (c + length low * length high - c)
+    cut = part edges c (c + length own * length other - c)
 
     cut-length : length cut ≡ tableSize J e
-    cut-length = length-part edges c (c + length low * length high - c) (omega (arith, table-ends)) ∙ table-size ∙ size
+    cut-length = length-part edges c (c + length own * length other - c) (omega (arith, table-ends)) ∙ table-size ∙ size
 
-    pub legal-joined : Joined (part nodes a (a + deg - a)) cut (length high) (length low)
+    pub legal-joined : Joined (part nodes a (a + length own - a)) cut b own other
     legal-joined =
-        let n = length-part nodes a (a + deg - a) (omega (arith, row-ends)) in
+        let n = length-part nodes a (a + length own - a) (omega (arith, row-ends)) in
         record {
-          some = omega (arith, sound .labelled u (g .node));
-          few = omega (arith, sound .few u (g .node));
-          shape = subst (λ (w : ℕ). Shape w (length low) cut) (sym ew) (subst (λ (h : ℕ). Shape (J .degree (J .high e)) h cut) (sym et) (shape-of s readable (g .edge) cut cut-length));
-          rowRange = within-part costLimit a (a + deg - a) nodes (g .nodeCosts .range);
-          cellRange = within-part costLimit c (c + length low * length high - c) edges (g .edgeCosts .range);
+          some = omega (arith, ed, sound .labelled u (g .node));
+          few = omega (arith, ed, sound .few u (g .node));
+          ends = transport (λ j. Ends (sym eb j) (sym own-is j) (sym other-is j) cut) (ends-of s readable (g .edge) cut cut-length (eqb u (J .low e)));
+          rowRange = within-part costLimit a (a + length own - a) nodes (g .nodeCosts .range);
+          cellRange = within-part costLimit c (c + length own * length other - c) edges (g .edgeCosts .range);
         }
 
-    pub legal-between : Between low high cut
-    legal-between b =
-        subst (λ (x : List ℕ). Ends b (cond b x high) (cond b high x) cut) (sym es)
-        (subst (λ (y : List ℕ). Ends b (cond b (labelsOf s (J .low e)) y) (cond b y (labelsOf s (J .low e))) cut) (sym eh) (ends-of s readable (g .edge) cut cut-length b))
-
     pub legal-moved : (limit : ℕ) (turned : Bool)
-        → putBack nodes edges a (a + deg) c (c + length low * length high)
-        (partsMoved limit (amountsOf turned (eqb u lo) low high (part nodes a (a + deg - a)) cut r) (part nodes a (a + deg - a)) cut (eqb u lo) (length high))
+        → putBack nodes edges a (a + length own) c (c + length own * length other)
+        (partsMoved limit (amountsOf turned b own other (part nodes a (a + length own - a)) cut r) (part nodes a (a + length own - a)) cut b (widthOf b own other))
         ≡ edgeMoved J nodes edges limit turned u e r
     legal-moved limit turned =
         let sb = row-size ∙ ed in
         let sd = table-size ∙ size in
         (λ j. let row = part nodes (ea j) (sb j) in
         let cells = part edges (ec j) (sd j) in
-        putBack nodes edges (ea j) (ea j + ed j) (ec j) (ec j + size j) (partsMoved limit (amountsOf turned (eqb u (el j)) (es j) (eh j) row cells r) row cells (eqb u (el j)) (ew j)))
+        putBack nodes edges (ea j) (ea j + ed j) (ec j) (ec j + size j) (partsMoved limit (amountsOf turned (eb j) (own-is j) (other-is j) row cells r) row cells (eb j) (ew j)))
         ∙ parts-are s readable nodes edges (g .nodeCosts .size) (g .edgeCosts .size) (g .node) (g .edge) r turned limit (g .touches)

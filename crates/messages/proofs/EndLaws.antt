@@ -6,7 +6,7 @@ use mathlib.Core.List.{List, map, map-map}
 use mathlib.Core.List.{List·Memᴰ as Mem}
 use mathlib.Core.Logic.{_⊎_, ⊎-elim}
 use Prim.Native.Nat.{ℕ, suc, _+_, _-_, _*_, _/_, _%_, _≤_, _<_}
-use native.Mathlib.Nat.{mul-le-mul-left, div-lt-iff-lt-mul, mod-lt}
+use native.Mathlib.Nat.{mul-comm, mul-le-mul-left, div-lt-iff-lt-mul, mod-lt}
 use native.Mathlib.Omega.{arith}
 use borrow.Author.Tests.{eq-eqb, ne-eqb, eqb-true, eqb-false}
 use lib.Dec.{eqb}
@@ -124,6 +124,11 @@ module _ (s : List ℕ) (r : refusalOf s ≡ 0) where
     height-is : (b : Bool) → cond b (length (own b)) (length (other b)) ≡ I .degree low
     height-is true = labels-length low-in
     height-is false = labels-length low-in
+
+    pub both-sizes : (b : Bool) → length (own b) * length (other b) ≡ tableSize I e
+    unfolding tableSize
+    both-sizes true = ap₂ _*_ (labels-length low-in) (labels-length high-in)
+    both-sizes false = mul-comm (length (labelsOf s high)) (length (labelsOf s low)) ∙ ap₂ _*_ (labels-length low-in) (labels-length high-in)
 
     pub usable-in : (b : Bool) (j : ℕ) → j < tableSize I e → usableIn b (own b) (other b) j ≡ usableCell I e (table I e + j)
     usable-in true j l =

@@ -20,7 +20,7 @@ use Rattle.rules.specs.Calls.{costLimit}
 use Rattle.messages.specs.declared.view.View.{View}
 use Rattle.messages.specs.Lent.{NodeFits, EdgeFits}
 use Rattle.messages.specs.Seen.{Seen}
-use Rattle.messages.specs.EdgeMessage.{nodeAmounts, edgeAmounts, movedRow, movedCells, Shape, Ends}
+use Rattle.messages.specs.EdgeMessage.{nodeAmounts, edgeAmounts, movedRow, movedCells, Ends}
 
 -- node costs and edge costs that a move leaves, with its refusal: 0, or 13 where a cost would pass the limit and nothing is written
 pub record EdgeMove : Type 0 where
@@ -71,21 +71,17 @@ pub record EdgeLegal (s : List ℕ) (v : View) (starts tables : List ℕ) (nodes
 
 -- ---- the same of the node's row and the edge's table alone, the amounts by position in a list
 
--- a row and a table, of the right sizes, of costs that fit
-pub record Joined (row cells : List ℤ) (width height : ℕ) : Type 0 where
+-- a row and a table with the labels of its ends, of the right sizes, of costs that fit
+pub record Joined (row cells : List ℤ) (byRow : Bool) (own other : List ℕ) : Type 0 where
   pub some : 0 < length row
   pub few : length row ≤ 16
-  pub shape : Shape width height cells
+  pub ends : Ends byRow own other cells
   pub rowRange : Within costLimit row
   pub cellRange : Within costLimit cells
 
--- the labels of the two ends with it, whichever of them a record names
-abbrev pub Between : List ℕ → List ℕ → List ℤ → Type 0
-Between low high cells = (byRow : Bool) → Ends byRow (cond byRow low high) (cond byRow high low) cells
-
 -- what each position gives to the cells
 abbrev pub amountsOf : Bool → Bool → List ℕ → List ℕ → List ℤ → List ℤ → ℕ → List ℤ
-amountsOf turned byRow low high row cells r = cond turned (edgeAmounts byRow (cond byRow low high) (cond byRow high low) cells r) (nodeAmounts row r)
+amountsOf turned byRow own other row cells r = cond turned (edgeAmounts byRow own other cells r) (nodeAmounts row r)
 
 -- whether all stay within the limit
 abbrev pub fitParts : ℕ → List ℤ → Bool → ℕ → List ℤ → List ℤ → Bool

@@ -123,8 +123,8 @@ fn low_at(cells: &[i64], width: usize, height: usize, by_row: bool, k: usize, sk
     }
 }
 
-// The first of two numbers if an edge's end goes by rows, else the second.
-fn either(by_row: bool, row: usize, column: usize) -> usize
+// The first of two numbers where an edge's end goes by rows, else the second.
+pub(crate) fn either(by_row: bool, row: usize, column: usize) -> usize
     ensures { λ r. ⌜ r ≡ cond «by_row» row column ⌝ }
 {
     if by_row { row } else { column }

@@ -1,6 +1,7 @@
 // Records of kinds 1 and 2: messages between a node and an edge that it ends. Document 01, kinds 1 and 2.
 use crate::edge_message::cells_fit;
 use crate::edge_message::edge_amounts;
+use crate::edge_message::either;
 use crate::edge_message::excess_each;
 use crate::edge_message::move_cells;
 use crate::edge_message::negated;
@@ -9,7 +10,6 @@ use crate::edge_message::raise_each;
 use crate::records::Record;
 use crate::rows::OUT;
 use crate::view::View;
-use crate::view::degree_of;
 use crate::view::high_end;
 use crate::view::labels_of;
 use crate::view::low_end;
@@ -21,29 +21,25 @@ ghost use lib.ListN.{length};
 ghost use Rattle.integers.specs.Sum.{Within};
 ghost use Rattle.instance.specs.Sheet.{instanceOf};
 ghost use Rattle.rules.specs.Calls.{costLimit};
-ghost use Rattle.messages.specs.EdgeMessage.{takenOf};
-ghost use Rattle.messages.specs.EdgeRecord.{edgeMove, edgeMoved, EdgeLegal, Joined, Between, amountsOf, fitParts, partsMoved};
+ghost use Rattle.messages.specs.EdgeMessage.{takenOf, Shape, widthOf};
+ghost use Rattle.messages.specs.EdgeRecord.{edgeMove, edgeMoved, EdgeLegal, Joined, amountsOf, fitParts, partsMoved};
 
 // What each position of the node gives, or turned round what each position of the edge's end does.
 fn amounts_of(
     row: &[i64],
     cells: &[i64],
-    low: &[u8],
-    high: &[u8],
+    own: &[u8],
+    other: &[u8],
     by_row: bool,
     turned: bool,
     share: u8,
 ) -> [i64; 16]
-    requires { ⌜ Joined (now row) (now cells) (length (now high)) (length (now low)) × Between (now low) (now high) (now cells) ⌝ }
+    requires { ⌜ Joined (now row) (now cells) «by_row» (now own) (now other) ⌝ }
     requires { ⌜ 1 ≤ share ⌝ }
-    ensures { λ r. ⌜ r ≡ amountsOf turned «by_row» (now (low .entry)) (now (high .entry)) (now (row .entry)) (now (cells .entry)) share ⌝ }
+    ensures { λ r. ⌜ r ≡ amountsOf turned «by_row» (now (own .entry)) (now (other .entry)) (now (row .entry)) (now (cells .entry)) share ⌝ }
 {
     if turned {
-        if by_row {
-            edge_amounts(cells, low, high, true, share)
-        } else {
-            edge_amounts(cells, high, low, false, share)
-        }
+        edge_amounts(cells, own, other, by_row, share)
     } else {
         node_amounts(row, share)
     }
@@ -60,7 +56,7 @@ fn both_fit(
     taken: &[i64; 16],
     limit: u64,
 ) -> bool
-    requires { ⌜ Joined (now row) (now cells) width height ⌝ }
+    requires { ⌜ (length (now row) ≤ 16) × Shape width height (now cells) × Within costLimit (now row) × Within costLimit (now cells) ⌝ }
     requires { ⌜ Within (2 ^ 41) (now amounts) × (now taken ≡ takenOf (now amounts)) × (limit ≤ costLimit) ⌝ }
     ensures { λ r. ⌜ r ≡ fitParts limit (now (amounts .entry)) «by_row» width (now (row .entry)) (now (cells .entry)) ⌝ }
 {
@@ -75,20 +71,20 @@ fn both_fit(
 fn move_parts(
     row: &mut [i64],
     cells: &mut [i64],
-    low: &[u8],
-    high: &[u8],
+    own: &[u8],
+    other: &[u8],
     by_row: bool,
     turned: bool,
     share: u8,
     limit: u64,
 ) -> u8
-    requires { ⌜ Joined (now row) (now cells) (length (now high)) (length (now low)) × Between (now low) (now high) (now cells) ⌝ }
+    requires { ⌜ Joined (now row) (now cells) «by_row» (now own) (now other) ⌝ }
     requires { ⌜ (1 ≤ share) × (limit ≤ costLimit) ⌝ }
-    ensures { λ r. ⌜ edgeMove r (now (row .exit)) (now (cells .exit)) ≡ partsMoved limit (amountsOf turned «by_row» (now (low .entry)) (now (high .entry)) (now (row .entry)) (now (cells .entry)) share) (now (row .entry)) (now (cells .entry)) «by_row» (length (now (high .entry))) ⌝ }
+    ensures { λ r. ⌜ edgeMove r (now (row .exit)) (now (cells .exit)) ≡ partsMoved limit (amountsOf turned «by_row» (now (own .entry)) (now (other .entry)) (now (row .entry)) (now (cells .entry)) share) (now (row .entry)) (now (cells .entry)) «by_row» (widthOf «by_row» (now (own .entry)) (now (other .entry))) ⌝ }
 {
-    let width = high.len();
-    let height = low.len();
-    let amounts = amounts_of(row, cells, low, high, by_row, turned, share);
+    let width = either(by_row, other.len(), own.len());
+    let height = either(by_row, own.len(), other.len());
+    let amounts = amounts_of(row, cells, own, other, by_row, turned, share);
     let taken = negated(&amounts);
     if both_fit(row, cells, width, height, by_row, &amounts, &taken, limit) {
         raise_each(row, &taken);
@@ -115,20 +111,22 @@ pub(crate) fn move_edge(
 {
     let u = step.node;
     let e = step.index;
-    let x = low_end(sheet, view, e);
-    let y = high_end(sheet, view, e);
-    let low = labels_of(sheet, view, starts[x], x);
-    let high = labels_of(sheet, view, starts[y], y);
+    let low = low_end(sheet, view, e);
+    let high = high_end(sheet, view, e);
+    let by_row = u == low;
+    let w = either(by_row, high, low);
+    let own = labels_of(sheet, view, starts[u], u);
+    let other = labels_of(sheet, view, starts[w], w);
     let a = starts[u];
-    let b = a + degree_of(sheet, u);
+    let b = a + own.len();
     let c = tables[e];
-    let d = c + low.len() * high.len();
+    let d = c + own.len() * other.len();
     move_parts(
         &mut nodes[a..b],
         &mut edges[c..d],
-        low,
-        high,
-        u == x,
+        own,
+        other,
+        by_row,
         turned,
         step.share,
         view.limit,

@@ -20,7 +20,7 @@ use Rattle.messages.proofs.edge_record.both_fit.Tie as tie
 excess-each-requires : tie.Need-excess-each-requires
 excess-each-requires c κs =
     let (_, e, m) = c .pre .1 in
-    (c .pre .0 .few, (c .pre .0 .rowRange, (rw e (taken-within (now (c .args .amounts)) (c .pre .1 .0)), m)))
+    (c .pre .0 .0, (c .pre .0 .2, (rw e (taken-within (now (c .args .amounts)) (c .pre .1 .0)), m)))
 
 -- the row's test, and what is answered with the table's
 module _ (c : tie.After-excess-each) where
@@ -30,7 +30,7 @@ module _ (c : tie.After-excess-each) where
   row-told : ltb (c .excess-each .result) (2 ^ 63) ≡ every (within (q .args .limit)) (movedRow (now (q .args .amounts)) (now (q .args .row)))
   row-told =
       let t = every (within (q .args .limit)) in
-      c .excess-each .ensures ∙ ap (λ (l : List ℤ). t (shifted (λ k. getD l k (pos 0)) (now (q .args .row)))) (q .pre .1 .1) ∙ ap t (taken-row (now (q .args .amounts)) (now (q .args .row)) (q .pre .0 .few))
+      c .excess-each .ensures ∙ ap (λ (l : List ℤ). t (shifted (λ k. getD l k (pos 0)) (now (q .args .row)))) (q .pre .1 .1) ∙ ap t (taken-row (now (q .args .amounts)) (now (q .args .row)) (q .pre .0 .0))
 
   abbrev both : Bool → Bool
   both b = let x = q .args in b && every (within (x .limit)) (movedCells (x .by-row) (x .width) (now (x .amounts)) (now (x .cells)))
