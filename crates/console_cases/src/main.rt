@@ -79,6 +79,40 @@ fn vanished_cases() {
     );
 }
 
+// Document 02, wish 2: edges whose ends have one label.
+fn unusable_cases() {
+    show_files(
+        b"the sample and a sixth record",
+        b"sample.sheet",
+        b"sixth.records",
+    );
+    show_files(
+        b"a run of another implementation with unusable cells",
+        b"unusable-run.sheet",
+        b"unusable-run.records",
+    );
+    show_files(
+        b"an edge with no usable cell",
+        b"unusable-only.sheet",
+        b"rounding.records",
+    );
+    show_files(
+        b"the same with a price of 1,000,001",
+        b"unusable-price.sheet",
+        b"rounding.records",
+    );
+    show_files(
+        b"a second label at one end",
+        b"unusable-one.sheet",
+        b"rounding.records",
+    );
+    show_files(
+        b"255 alone at both ends",
+        b"vanished-joined.sheet",
+        b"rounding.records",
+    );
+}
+
 // Sheets and lists at the limits of their lengths and past them. The lists are roundings, so that one that was cut would
 // be run.
 fn length_cases() {
@@ -133,6 +167,7 @@ fn main() {
     refused_cases();
     other_cases();
     vanished_cases();
+    unusable_cases();
     length_cases();
     extreme_cases();
 }

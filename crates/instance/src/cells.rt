@@ -29,7 +29,10 @@ fn edge_usable(sheet: &[u8], n: usize, at: usize, starts: &[usize; 64], e: usize
     if 1 < sheet[v] {
         return true;
     }
-    usable(first_label(sheet, n, starts, u), first_label(sheet, n, starts, v))
+    usable(
+        first_label(sheet, n, starts, u),
+        first_label(sheet, n, starts, v),
+    )
 }
 
 // Whether each does. It does not stop at the first that does not.

@@ -63,8 +63,7 @@ labels-of-requires-2 c κs =
 usable-least-requires : tie.Need-usable-least-requires
 usable-least-requires c κs =
     let q = start (p c) in
-    let l = now (q .args .cells) in
-    (
+    let l = now (q .args .cells) in (
       subst (λ (x : List ℕ). Ends true x (now (c .labels-of2 .result)) l) (sym (low-is c))
           (subst (λ (x : List ℕ). Ends true (labelsOf (s (p c)) (I (p c) .low (q .args .e))) x l) (sym (high-is c)) (ends-of (s (p c)) (q .pre .0 .0 .readable) (edge (p c)) l (q .pre .1 .size) true)),
       q .pre .1 .range,

@@ -45,8 +45,11 @@ module _ (d : tie.After-degree-of Inv-loop μ-loop) where
 
   some : 0 < length row
   some =
-      omega (arith, part-length (head .loop .inv) (d .before .loop-test .taken) (d .degree-of .result) (d .degree-of .ensures .0) (node-parts (start .pre .0) (start .pre .1)),
-      row-some (start .pre .0) (d .before .loop-test .taken))
+      omega (
+        arith,
+        part-length (head .loop .inv) (d .before .loop-test .taken) (d .degree-of .result) (d .degree-of .ensures .0) (node-parts (start .pre .0) (start .pre .1)),
+        row-some (start .pre .0) (d .before .loop-test .taken),
+      )
 
   small : natAbs (leastOf row) ≤ costLimit
   small =
