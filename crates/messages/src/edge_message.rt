@@ -298,10 +298,10 @@ fn raise_all(line: &mut [i64], amount: i64)
     requires { ⌜ natAbs amount ≤ 2 ^ 41 ⌝ }
     ensures { λ _. ⌜ now (line .exit) ≡ shifted (λ k. amount) (now (line .entry)) ⌝ }
 {
-    let mut k = 0;
-    while k < line.len() {
-        add_at(line, k, amount);
-        k += 1;
+    let mut j = 0;
+    while j < line.len() {
+        add_at(line, j, amount);
+        j += 1;
     }
 }
 
