@@ -104,12 +104,6 @@ module _ {s : List ℕ} {n at : ℕ} {starts : List ℕ} (asked : UsableAsked s 
   abbrev J : Instance
   J = instanceOf s
 
-  pub ends-inside : at + 2 * e + 1 < length s
-  ends-inside = omega (arith, asked .ends .room)
-
-  pub ends-few : e < 256
-  ends-few = omega (arith, asked .ends .few)
-
   module _ {u v : ℕ} (eu : u ≡ byte s (at + 2 * e)) (ev : v ≡ byte s (at + 2 * e + 1)) where
     low-is : u ≡ J .low e
     unfolding instanceOf

@@ -29,7 +29,7 @@ use Rattle.rules.specs.Calls.{costLimit}
 use Rattle.rules.specs.Places.{nodePlaces, labelPlaces}
 use Rattle.rules.specs.Costs.{Buffers, costsOf, nodeLeast, edgeLeast, labelLeast}
 use Rattle.messages.specs.declared.view.View.{View}
-use Rattle.messages.specs.Lent.{lent, Fits, NodeFits, EdgeFits}
+use Rattle.messages.specs.Lent.{lent, NodeFits, EdgeFits}
 use Rattle.messages.specs.Seen.{Viewed}
 use Rattle.messages.specs.Bounds.{rowLeast, tableLeast, labelBelow, leastLabels}
 use Rattle.messages.proofs.SheetLaws.{proper}

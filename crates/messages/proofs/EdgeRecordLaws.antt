@@ -23,7 +23,7 @@ use Rattle.index.proofs.Lists.{select-ext}
 use Rattle.instance.specs.Instance.{Instance, first, nodeCells, tableSize, table, edgeCells}
 use Rattle.instance.specs.Sheet.{instanceOf, refusalOf}
 use Rattle.instance.specs.Readable.{Proper}
-use Rattle.instance.proofs.LaidOut.{positions-few, row-inside, table-inside, low-inside}
+use Rattle.instance.proofs.LaidOut.{positions-few, row-inside, table-inside}
 use Rattle.rules.specs.Places.{endPlace, endPlaces, nodePlaces}
 use Rattle.rules.specs.Costs.{Buffers, costsOf, inRange, Sized, nodeLeast, edgeLeast}
 use Rattle.rules.specs.Messages.{nodeToEdge, edgeToNode, toEdge, deltas, shift}

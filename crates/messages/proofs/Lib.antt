@@ -4,7 +4,6 @@ pub mod ExcessLaws
 pub mod LeastLaws
 pub mod SheetLaws
 pub mod ClashLaws
-pub mod UsableLeast
 pub mod EndLaws
 pub mod SumLaws
 pub mod BoundLaws
@@ -15,6 +14,7 @@ pub mod IncumbentLaws
 pub mod OverLaws
 pub mod EdgeLaws
 pub mod UsableLaws
+pub mod UsableLeast
 pub mod RivalLaws
 pub mod KeyLaws
 pub mod ChoiceLaws

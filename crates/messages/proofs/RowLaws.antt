@@ -2,7 +2,7 @@
 -- Assumes nothing.
 use mathlib.Core.Path.{_≡_, refl, sym, ap, _∙_}
 use mathlib.Core.Bool.{Bool, true, false}
-use mathlib.Core.List.{List, [], _∷_, _++_}
+use mathlib.Core.List.{List, [], _∷_}
 use Prim.Native.Nat.{ℕ, zero, suc, _≤_, _<_, _^_}
 use native.Mathlib.Nat.{not-suc-le-zero}
 use native.Mathlib.Omega.{arith}
@@ -18,7 +18,7 @@ use Rattle.integers.specs.Checks.{below, within}
 use Rattle.integers.proofs.Parts.{linear, abs, sub, neg}
 use Rattle.integers.proofs.Places.{both-ways, and-true}
 use Rattle.integers.proofs.Checks.{below-at, below-all, below-fails, within-le}
-use Rattle.integers.proofs.Least.{least-append, least-min, least-within}
+use Rattle.integers.proofs.Least.{least-min, least-within}
 use Rattle.rules.specs.Calls.{costLimit}
 
 -- two parts in either order
@@ -26,11 +26,6 @@ pub least-parts : (x : ℤ) (a b : List ℤ) → leastFrom (leastFrom x b) a ≡
 unfolding leastFrom
 least-parts x [] b = refl
 least-parts x (y ∷ a) b = ap (minℤ y) (least-parts x a b) ∙ sym (least-min y (leastFrom x a) b)
-
-pub least-of-append : (a b : List ℤ) → 0 < length a → leastOf (a ++ b) ≡ leastFrom (leastOf a) b
-unfolding leastOf
-least-of-append [] b h = absurd (not-suc-le-zero h)
-least-of-append (x ∷ a) b h = least-append x a b ∙ least-parts x a b
 
 -- a test of each element, place by place
 module _ {A : Type 0} (t : A → Bool) where

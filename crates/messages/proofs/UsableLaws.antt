@@ -4,7 +4,7 @@ use mathlib.Core.Path.{_≡_, refl, sym, ap, ap₂, _∙_}
 use mathlib.Core.Bool.{Bool, true, false, not, cond}
 use mathlib.Core.List.{List, [], _∷_, map, map-append, map-map}
 use mathlib.Core.List.{List·Memᴰ as Mem}
-use Prim.Native.Nat.{ℕ, suc, _+_, _-_, _*_, _/_, _%_, _≤_, _<_}
+use Prim.Native.Nat.{ℕ, _+_, _-_, _*_, _/_, _%_, _≤_, _<_}
 use native.Mathlib.Omega.{arith}
 use native.Mathlib.Nat.{div-lt-iff-lt-mul, mod-lt}
 use borrow.Author.Tests.{eq-eqb, ne-eqb}
@@ -62,8 +62,8 @@ module _ (f : ℕ → ℤ) (b : ℤ) (skip : ℕ) where
 -- ---- the least of some costs, and of none
 
 module _ (l : List ℤ) (h : Within costLimit l) where
-  least-some : 0 < length l → leastFrom unbounded l ≡ leastOf l
-  least-some g = least-of unbounded l g ∙ min-eq-right (omega (linear, abs (leastOf l), least-of-within costLimit l h))
+  pub least-bounded : 0 < length l → leastFrom unbounded l ≡ leastOf l
+  least-bounded g = least-of unbounded l g ∙ min-eq-right (omega (linear, abs (leastOf l), least-of-within costLimit l h))
 
   least-below : leastFrom unbounded l <ℤ unbounded → natAbs (leastFrom unbounded l) ≤ costLimit
   least-below = least-ind (λ m. m <ℤ unbounded → natAbs m ≤ costLimit) unbounded l (pos 0) (λ g. absurd (omega linear)) (λ i _ _. h i)
@@ -74,12 +74,12 @@ turned-is [] low r h = refl
 turned-is (x ∷ l) low r h =
     let m = leastOf (x ∷ l) in
     let b = least-of-within costLimit (x ∷ l) h in
-    ap (λ (z : ℤ). turnedLeast z low r) (least-some (x ∷ l) h (omega arith))
+    ap (λ (z : ℤ). turnedLeast z low r) (least-bounded (x ∷ l) h (omega arith))
     ∙ if-true (negℤ (shareDown (m -ℤ low) r)) (pos 0) (by-test (ltZ m unbounded) (λ e. e) (λ e. absurd (omega (linear, abs m))))
 
 -- ---- the cells at a position
 
-usable-at : (b : Bool) (own other : List ℕ) (r j : ℕ) → j < widthOf b own other
+pub usable-at : (b : Bool) (own other : List ℕ) (r j : ℕ) → j < widthOf b own other
     → usableIn b own other (r * widthOf b own other + j) ≡ usable (getD own (cond b r j) 0) (getD other (cond (not b) r j) 0)
 usable-at b own other r j h =
     let w = widthOf b own other in

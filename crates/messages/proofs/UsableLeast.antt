@@ -1,40 +1,27 @@
 -- The least usable cell of an edge's table, found stretch by stretch between the unusable cells.
 -- Assumes nothing.
-use mathlib.Core.Path.{_≡_, refl, sym, ap, ap₂, _∙_}
+use mathlib.Core.Path.{_≡_, refl, sym, ap, _∙_}
 use mathlib.Core.Bool.{Bool, true, false, not}
 use mathlib.Core.List.{List, _++_, map, map-append, append-nil}
 use mathlib.Core.List.{List·Memᴰ as Mem, List·Memᴰ·head as here, List·Memᴰ·tail as there}
-use Prim.Native.Nat.{ℕ, suc, _+_, _-_, _*_, _≤_, _<_}
-use native.Mathlib.Nat.{div-eq-of-lt-le, mul-add-mod-self-right, mod-eq-of-lt}
+use Prim.Native.Nat.{ℕ, _+_, _-_, _*_, _≤_, _<_}
 use native.Mathlib.Omega.{arith}
 use borrow.Author.Tests.{eq-eqb, ne-eqb, ltb-true, ltb-false}
 use lib.Dec.{eqb, ltb}
 use lib.ListN.{length, getD, take, drop, length-map}
 use lib.IntN.{ℤ, pos}
-use lib.Signed.{_≤ℤ_}
 use Rattle.integers.specs.Least.{leastFrom, leastOf}
 use Rattle.integers.specs.Sum.{Within}
 use Rattle.integers.specs.Places.{range, select}
-use Rattle.integers.proofs.Parts.{linear, abs}
-use Rattle.integers.proofs.Order.{le-trans, min-eq-right}
-use Rattle.integers.proofs.Least.{least-of, least-append, least-of-le}
+use Rattle.integers.proofs.Least.{least-append}
 use Rattle.integers.proofs.Places.{by-test, mem-range, range-mem, mem-select}
 use Rattle.integers.proofs.Ranges.{range-add, range-part, select-append, select-all, select-none}
 use Rattle.integers.proofs.Rows.{within-map}
-use Rattle.instance.specs.Instance.{usable}
 use Rattle.rules.specs.Calls.{costLimit}
 use Rattle.messages.specs.Clash.{Skips}
 use Rattle.messages.specs.EdgeMessage.{usableIn, usableOf, usableCells, unbounded, Ends}
 use Rattle.messages.proofs.RowLaws.{least-parts}
-
--- ---- the least with a start value
-
--- a start value that some element does not pass changes nothing
-pub least-start : (x : ℤ) (l : List ℤ) (i : ℕ) → i < length l → getD l i (pos 0) ≤ℤ x → leastFrom x l ≡ leastOf l
-least-start x l i h k = least-of x l (omega arith) ∙ min-eq-right (le-trans (least-of-le l i (pos 0) h) k)
-
-pub least-bounded : (l : List ℤ) → 0 < length l → Within costLimit l → leastFrom unbounded l ≡ leastOf l
-least-bounded l h w = let b = w 0 in least-start unbounded l 0 h (omega (linear, abs (getD l 0 (pos 0))))
+use Rattle.messages.proofs.UsableLaws.{usable-at, least-bounded}
 
 -- ---- the least of the elements at whose places a test passes
 
@@ -103,12 +90,6 @@ module _ {t : ℕ → Bool} {x : ℤ} {l : List ℤ} {best : ℤ} {from upto : �
 
 -- ---- the table of an edge
 
--- the cell j of the row k
-pub usable-at : (low high : List ℕ) (k j : ℕ) → j < length high → usableIn true low high (k * length high + j) ≡ usable (getD low k 0) (getD high j 0)
-usable-at low high k j h =
-    let w = length high in
-    ap₂ (λ (r s : ℕ). usable (getD low r 0) (getD high s 0)) (div-eq-of-lt-le w (omega arith) (omega arith)) (mul-add-mod-self-right k w j ∙ mod-eq-of-lt h)
-
 pub usable-some : {b : Bool} {own other : List ℕ} {cells : List ℤ} → Ends b own other cells → 0 < length (usableCells b own other cells)
 usable-some {b} {own} {other} {cells} e =
     let n = length cells in
@@ -136,7 +117,7 @@ module _ {low high : List ℕ} {cells : List ℤ} {best : ℤ} {from row k : ℕ
       let q : k ≡ length low = omega (arith, g .inside) in
       let z : length cells ≡ row = e .shape .size ∙ sym (g .start ∙ ap (λ (n : ℕ). n * length high) q) in
       gathered-least (gathered-clear (g .gathered) (omega arith) (omega arith) (λ j a b. absurd (omega arith)))
-      ∙ least-bounded (usableCells true low high cells) (usable-some e) (within-map costLimit (λ j. getD cells j (pos 0)) (usableOf true low high (length cells)) w)
+      ∙ least-bounded (usableCells true low high cells) (within-map costLimit (λ j. getD cells j (pos 0)) (usableOf true low high (length cells)) w) (usable-some e)
 
   -- the next row, which lies in the table: what is unusable in it, if anything, is the cell at `skip`
   module _ {skip : ℕ} (h : k < length low) (m : row + length high ≤ length cells) (z : Skips high (getD low k 0) skip) where
@@ -144,7 +125,7 @@ module _ {low high : List ℕ} {cells : List ℤ} {best : ℤ} {from row k : ℕ
     row-test j a b =
         let p = j - row in
         let q : j ≡ k * length high + p = omega (arith, g .start) in
-        ap (usableIn true low high) q ∙ usable-at low high k p (omega arith) ∙ z .passed p (omega arith)
+        ap (usableIn true low high) q ∙ usable-at true low high k p (omega arith) ∙ z .passed p (omega arith)
 
     row-clear : (j : ℕ) → row ≤ j → j < row + length high → (j ≡ row + skip → ⊥) → usableIn true low high j ≡ true
     row-clear j a b d = row-test j a b ∙ ap not (ne-eqb (j - row) skip (λ q. d (omega arith)))

@@ -20,7 +20,7 @@ unfoldable pub sweepRoom : List ℕ → ℕ
 sweepRoom s = cond (eqb (refusalOf s) 0) (sweepLength (instanceOf s)) 0
 
 module _ (s : List ℕ) (direction : ℕ) where
-  -- "1 to 7 as listed for the sheet; direction (12) for a sweep; 8"
+  -- "1 to 7 as listed for the sheet; direction (12) for a sweep; 8"; 15 is one of the sheet's (document 02, wish 2)
   unfoldable pub ownChecks : List ℕ → List (Bool × ℕ)
   ownChecks out = (known direction, 12) ∷ (eqb (length out) (sweepLength (instanceOf s)), 8) ∷ []
 

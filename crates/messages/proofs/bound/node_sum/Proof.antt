@@ -2,7 +2,7 @@
 use Prim.Native.Nat.{_+_, _-_, _<_, _≤_}
 use native.Mathlib.Omega.{arith}
 use mathlib.Core.List.{List}
-use mathlib.Core.Path.{_≡_, ap, _∙_}
+use mathlib.Core.Path.{_≡_, ap}
 use borrow.Author.Needs.{needs}
 use lib.ListN.{length}
 use lib.IntN.{ℤ, natAbs}
@@ -12,7 +12,7 @@ use mir.Val.{toZ, ofZ}
 use Rattle.integers.specs.Least.{leastOf}
 use Rattle.integers.specs.Rows.{part}
 use Rattle.integers.proofs.Bits.{answer}
-use Rattle.instance.specs.Instance.{Instance, first}
+use Rattle.instance.specs.Instance.{first}
 use Rattle.instance.specs.Sheet.{instanceOf}
 use Rattle.rules.specs.Calls.{costLimit}
 use Rattle.messages.specs.Bounds.{rowLeast}

@@ -1,6 +1,5 @@
 -- `clash` meets its contract: a label whose bit the mask lacks is none of the labels.
-use mathlib.Core.Path.{_≡_, sym, ap, _∙_}
-use Prim.Native.Nat.{ℕ}
+use mathlib.Core.Path.{sym, ap, _∙_}
 use borrow.Author.Needs.{needs}
 use lib.Bits.{bitAnd}
 use denote.Ref.{now}

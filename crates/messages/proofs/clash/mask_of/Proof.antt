@@ -1,7 +1,7 @@
 -- `mask_of` meets its contract: the mask has the bits of the labels so far.
 use Prim.Native.Nat.{ℕ, _+_, _-_}
 use native.Mathlib.Omega.{arith}
-use mathlib.Core.Path.{ap, sym, subst}
+use mathlib.Core.Path.{sym, subst}
 use borrow.Author.Needs.{needs}
 use lib.Bits.{bitOr}
 use lib.ListN.{length}
