@@ -34,6 +34,9 @@ Inv-loop sheet view starts edges count sum₀ at₀ e₀ sum at e = Summed (tabl
 abbrev μ-loop : tie.MeasureT-loop
 μ-loop sheet view starts edges count sum₀ at₀ e₀ sum at e = count - e
 
+loop-holds : tie.Need-loop-holds Inv-loop μ-loop
+loop-holds c = summed-none _ _ _
+
 -- the table of this turn
 module _ (d : tie.After-size-of Inv-loop μ-loop) where
   abbrev head : tie.At-loop Inv-loop μ-loop
@@ -97,7 +100,7 @@ edge-sum-spec =
     (tie.spec
     Inv-loop
     μ-loop
-    (λ c. summed-none _ _ _)
+    loop-holds
     (λ c κs. (c .before .before .before .pre .0 .0, c .loop-test .taken))
     (λ c. omega (arith, inside c))
     (λ c. omega (arith, inside c))

@@ -29,6 +29,9 @@ Inv-loop sheet nodes count sum₀ at₀ u₀ sum at u = Summed (instanceOf sheet
 abbrev μ-loop : tie.MeasureT-loop
 μ-loop sheet nodes count sum₀ at₀ u₀ sum at u = count - u
 
+loop-holds : tie.Need-loop-holds Inv-loop μ-loop
+loop-holds c = summed-none _ _ _
+
 -- the row of this turn
 module _ (d : tie.After-degree-of Inv-loop μ-loop) where
   abbrev head : tie.At-loop Inv-loop μ-loop
@@ -84,7 +87,7 @@ node-sum-spec =
     (tie.spec
     Inv-loop
     μ-loop
-    (λ c. summed-none _ _ _)
+    loop-holds
     (λ c κs. let q = c .before .before .before in (q .pre .0 .readable, omega (arith, c .loop-test .taken, q .pre .0 .nodes)))
     (λ c. omega (arith, inside c))
     (λ c. omega (arith, inside c))

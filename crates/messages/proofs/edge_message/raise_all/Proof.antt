@@ -20,6 +20,9 @@ Inv-loop line₀ amount k₀ line k = Raised (λ j. toZ w64 amount) line₀ k li
 abbrev μ-loop : tie.MeasureT-loop
 μ-loop line₀ amount k₀ line k = length line₀ - k
 
+loop-holds : tie.Need-loop-holds Inv-loop μ-loop
+loop-holds c = written-none _ _ _ (omega arith)
+
 add-at-requires : tie.Need-add-at-requires Inv-loop μ-loop
 add-at-requires c κs =
     let p = c .before .before in
@@ -41,7 +44,7 @@ raise-all-spec =
     (tie.spec
     Inv-loop
     μ-loop
-    (λ c. written-none _ _ _ (omega arith))
+    loop-holds
     add-at-requires
     (λ c. omega (arith, written-length (c .before .before .before .before .loop .inv)))
     (λ c. omega (arith, written-length (c .before .before .before .before .loop .inv)))
