@@ -11,10 +11,10 @@ use lib.Dec.{ltb, eqb}
 use lib.ListN.{length, getD}
 use Rattle.integers.specs.Checks.{below}
 use Rattle.integers.proofs.Places.{by-test, both-ways, or-split, left-true, right-true}
-use Rattle.integers.proofs.Checks.{below-fails, below-not, padded-at}
+use Rattle.integers.proofs.Checks.{below-at, below-all, below-fails, below-not, padded-at}
 use Rattle.instance.specs.Bytes.{byte}
 use Rattle.instance.specs.Instance.{Instance, exclusive, usable, first}
-use Rattle.instance.specs.Sheet.{instanceOf, labelsOk, noneUsable}
+use Rattle.instance.specs.Sheet.{instanceOf, labelsOk, noneUsable, usableOk}
 use Rattle.instance.specs.declared.sections.Degrees.{Degrees}
 use Rattle.instance.specs.declared.sections.Ends.{Ends}
 use Rattle.instance.specs.Passes.{LabelsBegun, UsableAsked, Laid}
@@ -131,6 +131,14 @@ module _ {s : List ℕ} {n at : ℕ} {starts : List ℕ} (asked : UsableAsked s 
         ap₂ (λ (x y : ℕ). (ltb 1 (byte s u) || ltb 1 (byte s v)) || usable x y) (el ∙ ap (J .label) (o u)) (eh ∙ ap (J .label) (o v))
         ∙ sym (some-usable (f u) (f v) (d u ku .0) (d v kv .0) (z u ku) (z v kv))
         ∙ ap₂ (λ (x y : ℕ). not (below (byte s x) (λ k. below (byte s y) (λ j. not (usable (f x k) (f y j)))))) low-is high-is
+
+-- where each node has two labels or more, each edge has one
+pub wide-usable : {s : List ℕ} {n at : ℕ} {starts : List ℕ} → UsableAsked s n at starts → below (instanceOf s .nodeCount) (λ u. ltb 1 (byte s u)) ≡ true → usableOk s ≡ true
+unfolding usableOk
+wide-usable {s} {n} {at} asked t =
+    below-all (instanceOf s .edgeCount) (λ e. not (noneUsable s e))
+    (λ e h. sym (edge-by asked h refl refl refl refl)
+    ∙ left-true _ (left-true _ (below-at (instanceOf s .nodeCount) (λ u. ltb 1 (byte s u)) t (byte s (at + 2 * e)) (ends-known asked h refl refl .0))))
 
 -- after the prices
 module _ (s : List ℕ) {n labels edges : ℕ} {d : Degrees} {x : Ends} (l : Laid s n labels edges d x) where

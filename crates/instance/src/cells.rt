@@ -3,7 +3,11 @@ use crate::labels::usable;
 use index::wide;
 ghost use mathlib.Core.Path.{_≡_};
 ghost use mathlib.Core.Bool.{not};
-ghost use Prim.Native.Nat.{_<_};
+ghost use Prim.Native.Nat.{_≤_, _<_};
+ghost use lib.Dec.{ltb};
+ghost use lib.ListN.{length};
+ghost use Rattle.integers.specs.Checks.{below};
+ghost use Rattle.instance.specs.Bytes.{byte};
 ghost use Rattle.instance.specs.Instance.{first};
 ghost use Rattle.instance.specs.Sheet.{instanceOf, noneUsable, usableOk};
 ghost use Rattle.instance.specs.Passes.{LabelsBegun, UsableAsked};
@@ -36,13 +40,7 @@ fn edge_usable(sheet: &[u8], n: usize, at: usize, starts: &[usize; 64], e: usize
 }
 
 // Whether each does. It does not stop at the first that does not.
-pub(crate) fn edges_usable(
-    sheet: &[u8],
-    n: usize,
-    at: usize,
-    edges: usize,
-    starts: &[usize; 64],
-) -> bool
+fn each_usable(sheet: &[u8], n: usize, at: usize, edges: usize, starts: &[usize; 64]) -> bool
     requires { ⌜ UsableAsked (now sheet) n at (now starts) × (edges ≡ instanceOf (now sheet) .edgeCount) ⌝ }
     ensures { λ r. ⌜ r ≡ usableOk (now (sheet .entry)) ⌝ }
 {
@@ -53,4 +51,35 @@ pub(crate) fn edges_usable(
         e += 1;
     }
     ok
+}
+
+// Whether each of the `n` nodes has two labels or more.
+fn none_single(sheet: &[u8], n: usize) -> bool
+    requires { ⌜ n ≤ length (now sheet) ⌝ }
+    ensures { λ r. ⌜ r ≡ below n (λ u. ltb 1 (byte (now (sheet .entry)) u)) ⌝ }
+{
+    let mut ok = true;
+    let mut u = 0;
+    while u < n {
+        ok = ok & (1 < sheet[u]);
+        u += 1;
+    }
+    ok
+}
+
+// Whether each edge has a usable cell, at once if each node has two labels.
+pub(crate) fn edges_usable(
+    sheet: &[u8],
+    n: usize,
+    at: usize,
+    edges: usize,
+    starts: &[usize; 64],
+) -> bool
+    requires { ⌜ UsableAsked (now sheet) n at (now starts) × (edges ≡ instanceOf (now sheet) .edgeCount) ⌝ }
+    ensures { λ r. ⌜ r ≡ usableOk (now (sheet .entry)) ⌝ }
+{
+    if none_single(sheet, n) {
+        return true;
+    }
+    each_usable(sheet, n, at, edges, starts)
 }

@@ -1,43 +1,20 @@
--- `edges_usable` meets its contract: each edge is tested, and whether all passed is kept.
-use Prim.Native.Nat.{ℕ, _-_}
-use mathlib.Core.Path.{ap, _∙_}
-use mathlib.Core.Bool.{not}
-use native.Mathlib.Omega.{arith}
+-- `edges_usable` meets its contract: an edge between two nodes of two labels has a usable cell.
+use mathlib.Core.Path.{sym, ap, _∙_}
+use Prim.Native.Nat.{ℕ}
+use lib.Dec.{ltb}
 use denote.Ref.{now}
 use Rattle.integers.specs.Checks.{below}
-use Rattle.integers.proofs.Checks.{Folded, folded-none, folded-more, folded-all}
-use Rattle.instance.specs.Sheet.{noneUsable, usableOk}
+use Rattle.instance.specs.Bytes.{byte}
+use Rattle.instance.proofs.UsableCells.{wide-usable}
 use borrow.Author.Needs.{needs}
 use Rattle.instance.proofs.cells.edges_usable.Statement.{statement}
 use Rattle.instance.proofs.cells.edges_usable.Tie as tie
 
-abbrev Inv-loop : tie.InvT-loop
-Inv-loop sheet n at edges starts ok₀ e₀ ok e = Folded (λ e. not (noneUsable sheet e)) edges e ok
-
-abbrev μ-loop : tie.MeasureT-loop
-μ-loop sheet n at edges starts ok₀ e₀ ok e = edges - e
-
-edge-usable-requires : tie.Need-edge-usable-requires Inv-loop μ-loop
-edge-usable-requires c κs = let q = c .before .before .before in (q .pre .0, omega (arith, c .loop-test .taken, q .pre .1))
-
-loop-again : tie.Need-loop-again Inv-loop μ-loop
-loop-again c = folded-more (c .before .before .loop .inv) (c .before .loop-test .taken) (c .edge-usable .ensures)
-
-returns : tie.Need-returns Inv-loop μ-loop
-unfolding usableOk
+returns : tie.Need-returns
 returns c =
     let q = c .before .before .before in
-    folded-all (c .before .loop .inv) (c .loop-test .left) ∙ ap (λ (n : ℕ). below n (λ e. not (noneUsable (now (q .args .sheet)) e))) (q .pre .1)
+    let s = now (q .args .sheet) in
+    sym (wide-usable (q .pre .0) (ap (λ (m : ℕ). below m (λ u. ltb 1 (byte s u))) (sym (q .pre .0 .labels .degrees .nodes)) ∙ sym (c .before .none-single .ensures) ∙ c .if1 .taken))
 
 pub edges-usable-spec : {M : Type 1} → statement M
-edges-usable-spec =
-    tie.close
-    (tie.spec
-    Inv-loop
-    μ-loop
-    (λ c. folded-none _ _)
-    edge-usable-requires
-    (λ c. search needs)
-    (λ c. search needs)
-    loop-again
-    returns)
+edges-usable-spec = tie.close (tie.spec (λ c κs. c .before .pre .0 .labels .degrees .room) returns (λ c κs. search needs) (λ c. c .each-usable .ensures))

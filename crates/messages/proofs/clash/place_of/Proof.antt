@@ -28,6 +28,9 @@ module _ (c : tie.After-usable Inv-loop μ-loop) where
   told : usable (q .args .label) (getD (now (q .args .labels)) (i .before .loop .p) 0) ≡ c .usable .result
   told = sym (c .usable .ensures ∙ ap₂ usable (c .before .before .before .wide .ensures .0) (c .before .wide2 .ensures .0))
 
+returns : tie.Need-returns Inv-loop μ-loop
+returns c = let t = c .before in skips-here (q t .pre) (i t .loop-test .taken) (told t ∙ c .if1 .left)
+
 returns-2 : tie.Need-returns-2 Inv-loop μ-loop
 returns-2 c =
     let h = c .before in
@@ -49,5 +52,5 @@ place-of-spec =
     (λ c. search needs)
     (λ c. search needs)
     (λ c. let t = c .before in usable-more (i t .before .loop .inv) (i t .loop-test .taken) (told t ∙ c .if1 .taken))
-    (λ c. let t = c .before in skips-here (q t .pre) (i t .loop-test .taken) (told t ∙ c .if1 .left))
+    returns
     returns-2)
