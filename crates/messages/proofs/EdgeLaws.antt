@@ -11,21 +11,21 @@ use lib.Dec.{ltb}
 use lib.ListN.{length, getD, take, drop, replicate}
 use lib.IntN.{ℤ, pos, negℤ, natAbs, _+ℤ_, _-ℤ_}
 use Rattle.integers.specs.Least.{leastOf}
-use Rattle.integers.specs.Share.{shareDown, excess}
+use Rattle.integers.specs.Share.{share, excess}
 use Rattle.integers.specs.Sum.{Within}
 use Rattle.integers.specs.Places.{tabulate, range, every}
 use Rattle.integers.specs.Checks.{below}
 use Rattle.integers.specs.Rows.{part}
 use Rattle.integers.proofs.Parts.{linear, sub, abs}
 use Rattle.integers.proofs.Least.{least-of-le}
-use Rattle.integers.proofs.Share.{down-toward, abs-le}
+use Rattle.integers.proofs.Share.{share-toward, abs-le}
 use Rattle.integers.proofs.Places.{by-cond, if-true, if-false, length-tabulate, getD-tabulate}
 use Rattle.integers.proofs.Ranges.{shifted, shifted-ext}
 use Rattle.integers.proofs.Rows.{length-part, getD-part, within-map}
 use Rattle.integers.proofs.Checks.{below-ext}
 use Rattle.rules.specs.Calls.{costLimit}
-use Rattle.messages.specs.EdgeMessage.{positionIn, nodeAmounts, usableOf, placesAt, usableCells, cellsAt, edgeAmounts, takenOf, movedRow, movedCells, movedLine, Shape, Above, over}
-use Rattle.messages.proofs.RowLaws.{every-is, least-of-within, neg-fits}
+use Rattle.messages.specs.EdgeMessage.{positionIn, nodeAmounts, usableOf, placesAt, usableCells, cellsAt, edgeAmounts, takenOf, movedRow, movedCells, movedLine, Shape, over}
+use Rattle.messages.proofs.RowLaws.{every-is, least-of-within, apart-within, neg-fits}
 use Rattle.messages.proofs.OverLaws.{over-zeros, every-made, below-rows}
 
 -- nothing given yet
@@ -34,16 +34,13 @@ zeros = replicate 16 (pos 0)
 
 -- ---- kind 1
 
-pub node-is : (row : List ℤ) (r : ℕ) → length row ≤ 16 → over (λ k. shareDown (getD row k (pos 0) -ℤ leastOf row) r) (length row) zeros ≡ nodeAmounts row r
+pub node-is : (row : List ℤ) (r : ℕ) → length row ≤ 16 → over (λ k. share (getD row k (pos 0) -ℤ leastOf row) r) (length row) zeros ≡ nodeAmounts row r
 unfolding nodeAmounts
 node-is row r h =
-    let f : ℕ → ℤ = (λ k. shareDown (getD row k (pos 0) -ℤ leastOf row) r) in
+    let f : ℕ → ℤ = (λ k. share (getD row k (pos 0) -ℤ leastOf row) r) in
     over-zeros f (λ k. cond (ltb k (length row)) (f k) (pos 0)) 16 (length row) h
     (λ k g. sym (if-true (f k) (pos 0) (lt-ltb k (length row) g)))
     (λ k _ g. sym (if-false (f k) (pos 0) (le-ltb k (length row) g)))
-
-pub node-above : (row : List ℤ) (k : ℕ) → k < length row → Within costLimit row → Above (leastOf row) (getD row k (pos 0))
-node-above row k h g = record { order = least-of-le row k (pos 0) h; least = least-of-within costLimit row g; most = g k }
 
 -- ---- rows of a table
 
@@ -104,19 +101,19 @@ pub taken-within : (amounts : List ℤ) → Within (2 ^ 41) amounts → Within (
 unfolding tabulate
 taken-within amounts h = within-map (2 ^ 41) (λ k. negℤ (getD amounts k (pos 0))) (range 0 16) (λ k. neg-fits (getD amounts k (pos 0)) (h k))
 
-pub down-within : (x b : ℤ) (r : ℕ) → natAbs x ≤ costLimit → natAbs b ≤ costLimit → natAbs (shareDown (x -ℤ b) r) ≤ 2 ^ 41
-down-within x b r h g = let t = abs-le (down-toward (x -ℤ b) r) in omega (linear, abs (x -ℤ b), sub x b, abs x, abs b)
+pub share-within : (x b : ℤ) (r : ℕ) → natAbs x ≤ costLimit → natAbs b ≤ costLimit → natAbs (share (x -ℤ b) r) ≤ 2 ^ 41
+share-within x b r h g = omega (arith, abs-le (share-toward (x -ℤ b) r), apart-within x b h g)
 
 excess-within : (l : List ℤ) (b : ℤ) (r : ℕ) → Within costLimit l → natAbs b ≤ costLimit → natAbs (excess l b r) ≤ 2 ^ 41
 unfolding excess
 excess-within [] b r h g = omega arith
-excess-within (x ∷ l) b r h g = down-within (leastOf (x ∷ l)) b r (least-of-within costLimit (x ∷ l) h) g
+excess-within (x ∷ l) b r h g = share-within (leastOf (x ∷ l)) b r (least-of-within costLimit (x ∷ l) h) g
 
 pub node-within : (row : List ℤ) (r : ℕ) → Within costLimit row → Within (2 ^ 41) (nodeAmounts row r)
 unfolding nodeAmounts tabulate
 node-within row r h =
-    within-map (2 ^ 41) (λ k. cond (ltb k (length row)) (shareDown (getD row k (pos 0) -ℤ leastOf row) r) (pos 0)) (range 0 16)
-    (λ k. by-cond (λ z. natAbs z ≤ 2 ^ 41) (ltb k (length row)) (λ _. down-within (getD row k (pos 0)) (leastOf row) r (h k) (least-of-within costLimit row h)) (λ _. omega arith))
+    within-map (2 ^ 41) (λ k. cond (ltb k (length row)) (share (getD row k (pos 0) -ℤ leastOf row) r) (pos 0)) (range 0 16)
+    (λ k. by-cond (λ z. natAbs z ≤ 2 ^ 41) (ltb k (length row)) (λ _. share-within (getD row k (pos 0)) (leastOf row) r (h k) (least-of-within costLimit row h)) (λ _. omega arith))
 
 pub edge-within : (byRow : Bool) (own other : List ℕ) (l : List ℤ) (r : ℕ) → Within costLimit l → Within (2 ^ 41) (edgeAmounts byRow own other l r)
 unfolding edgeAmounts tabulate

@@ -11,7 +11,7 @@ use lib.Dec.{eqb, ltb}
 use lib.ListN.{length, getD, take, drop}
 use lib.IntN.{ℤ, pos, negℤ, _-ℤ_}
 use Rattle.integers.specs.Least.{leastOf}
-use Rattle.integers.specs.Share.{shareDown, excess}
+use Rattle.integers.specs.Share.{share, excess}
 use Rattle.integers.specs.Sum.{Within}
 use Rattle.integers.specs.Places.{select, every}
 use Rattle.integers.specs.Checks.{within}
@@ -91,10 +91,10 @@ module _ (s : List ℕ) (readable : refusalOf s ≡ 0) where
     node-amount : (k : ℕ) → k < I .degree u → getD (nodeAmounts row r) k (pos 0) ≡ edgeAmount I nodes edges false u e r (first I u + k)
     unfolding nodeAmounts edgeAmount nodePlaces
     node-amount k h =
-        let f : ℕ → ℤ = (λ k. cond (ltb k (length row)) (shareDown (getD row k (pos 0) -ℤ leastOf row) r) (pos 0)) in
+        let f : ℕ → ℤ = (λ k. cond (ltb k (length row)) (share (getD row k (pos 0) -ℤ leastOf row) r) (pos 0)) in
         getD-tabulate 16 f k (pos 0) (omega (arith, p .few u hu))
-        ∙ if-true (shareDown (getD row k (pos 0) -ℤ leastOf row) r) (pos 0) (lt-ltb k (length row) (omega (arith, row-length)))
-        ∙ ap₂ (λ (x y : ℤ). shareDown (x -ℤ y) r) (getD-part nodes (first I u) (I .degree u) k (pos 0) h) (ap leastOf (sym (range-part nodes (pos 0) (first I u) (I .degree u) row-fits)))
+        ∙ if-true (share (getD row k (pos 0) -ℤ leastOf row) r) (pos 0) (lt-ltb k (length row) (omega (arith, row-length)))
+        ∙ ap₂ (λ (x y : ℤ). share (x -ℤ y) r) (getD-part nodes (first I u) (I .degree u) k (pos 0) h) (ap leastOf (sym (range-part nodes (pos 0) (first I u) (I .degree u) row-fits)))
 
     -- the usable cells with u at its position k
     cells-there : (k : ℕ) → cellsAt byRow own other cells k ≡ map (λ j. getD edges j (pos 0)) (endPlaces I e u (first I u + k))

@@ -74,9 +74,9 @@ module _ (I : Instance) (l : List ℤ) (h : Within costLimit l) where
   pub label-fits : (i r : ℕ) → natAbs (labelAmount I l i r) ≤ 2 ^ 41
   label-fits i r = amount-fits (getD l i (pos 0)) (rivals i) r (h i) (rivals-bounded i)
 
-  pub label-apart : (i : ℕ) → SFits w64 (getD l i (pos 0) -ℤ labelRival I l i)
+  pub rival-within : (i : ℕ) → natAbs (labelRival I l i) ≤ costLimit
   unfolding leastOf
-  label-apart i = apart-fits (getD l i (pos 0)) (labelRival I l i) (h i) (least-of-within costLimit (rivals i) (rivals-bounded i))
+  rival-within i = least-of-within costLimit (rivals i) (rivals-bounded i)
 
 -- the label's amount is a share of the distance from the rival
 pub label-shared : (I : Instance) (l : List ℤ) (i r : ℕ) → share (getD l i (pos 0) -ℤ labelRival I l i) r ≡ labelAmount I l i r

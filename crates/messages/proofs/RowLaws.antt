@@ -1,21 +1,26 @@
 -- Rows of costs as the code goes through them: the least over two parts, a test of each cost, and the range of a cost.
 -- Assumes nothing.
-use mathlib.Core.Path.{_≡_, refl, sym, ap, _∙_}
+use mathlib.Core.Path.{_≡_, refl, sym, ap, ap₂, _∙_}
 use mathlib.Core.Bool.{Bool, true, false}
 use mathlib.Core.List.{List, [], _∷_}
 use Prim.Native.Nat.{ℕ, zero, suc, _≤_, _<_, _^_}
 use native.Mathlib.Nat.{not-suc-le-zero}
 use native.Mathlib.Omega.{arith}
+use lib.Dec.{T}
 use lib.ListN.{length, getD}
 use lib.IntN.{ℤ, pos, negℤ, natAbs, _-ℤ_}
+use lib.Signed.{_≤ℤ_, nonNeg}
 use mir.Syntax.{w64}
-use mir.Val.{SFits}
+use mir.Val.{Fits, SFits, toZ, ofZ}
+use mir.Facts.{toZ-ofZ}
 use Rattle.integers.specs.Least.{minℤ, leastFrom, leastOf}
-use Rattle.integers.specs.Share.{share, amount}
+use Rattle.integers.specs.Share.{nearest, share, amount}
 use Rattle.integers.specs.Sum.{Within}
 use Rattle.integers.specs.Places.{every}
 use Rattle.integers.specs.Checks.{below, within}
 use Rattle.integers.proofs.Parts.{linear, abs, sub, neg}
+use Rattle.integers.proofs.Bits.{low}
+use Rattle.integers.proofs.Share.{nearest-le, share-pos}
 use Rattle.integers.proofs.Places.{both-ways, and-true}
 use Rattle.integers.proofs.Checks.{below-at, below-all, below-fails, within-le}
 use Rattle.integers.proofs.Least.{least-min, least-within}
@@ -65,6 +70,37 @@ least-of-within k (x ∷ l) h = least-within k x l (h 0) (λ i. h (suc i))
 -- a difference of two costs fits
 pub apart-fits : (x y : ℤ) → natAbs x ≤ costLimit → natAbs y ≤ costLimit → SFits w64 (x -ℤ y)
 apart-fits x y h g = omega (linear, sub x y, abs x, abs y)
+
+pub apart-within : (x y : ℤ) → natAbs x ≤ costLimit → natAbs y ≤ costLimit → natAbs (x -ℤ y) ≤ 2 ^ 41
+apart-within x y h g = omega (linear, sub x y, abs (x -ℤ y), abs x, abs y)
+
+-- the code's difference of two costs, read back, and its size
+module _ (x y : ℤ) (h : natAbs x ≤ costLimit) (g : natAbs y ≤ costLimit) where
+  abbrev difference : ℤ
+  difference = toZ w64 (ofZ w64 x) -ℤ toZ w64 (ofZ w64 y)
+
+  fits : (z : ℤ) → natAbs z ≤ costLimit → SFits w64 z
+  fits z b = omega (linear, abs z)
+
+  pub difference-fits : SFits w64 difference
+  difference-fits = rw (toZ-ofZ (fits x h), toZ-ofZ (fits y g)) (apart-fits x y h g)
+
+  pub difference-is : toZ w64 (ofZ w64 difference) ≡ x -ℤ y
+  difference-is = toZ-ofZ difference-fits ∙ ap₂ _-ℤ_ (toZ-ofZ (fits x h)) (toZ-ofZ (fits y g))
+
+  pub size-few : natAbs (toZ w64 (ofZ w64 difference)) ≤ 2 ^ 41
+  size-few = rw difference-is (apart-within x y h g)
+
+  pub size-is : y ≤ℤ x → T (nonNeg (toZ w64 (ofZ w64 difference))) × Fits w64 (natAbs (toZ w64 (ofZ w64 difference)))
+  size-is o = (rw difference-is (omega (linear, sub x y)), omega (arith, size-few))
+
+  -- one r-th of that size, where the first is no less than the second
+  module _ (r n : ℕ) (e : n ≡ nearest (natAbs (toZ w64 (ofZ w64 difference))) r) where
+    pub part-few : n ≤ 2 ^ 41
+    part-few = omega (arith, e, nearest-le (natAbs (toZ w64 (ofZ w64 difference))) r, size-few)
+
+    pub part-is : y ≤ℤ x → toZ w64 n ≡ share (x -ℤ y) r
+    part-is o = low w64 n (omega (arith, part-few)) ∙ ap pos (e ∙ ap (λ (z : ℤ). nearest (natAbs z) r) difference-is) ∙ sym (share-pos (x -ℤ y) r (omega (linear, sub x y)))
 
 -- ---- a cost against the others of its row
 

@@ -13,7 +13,7 @@ use lib.ListN.{length, getD, take}
 use lib.IntN.{ℤ, pos, negℤ, natAbs, _-ℤ_}
 use lib.Signed.{_≤ℤ_, _<ℤ_, ltZ}
 use Rattle.integers.specs.Least.{minℤ, leastFrom, leastOf, without}
-use Rattle.integers.specs.Share.{shareDown, excess}
+use Rattle.integers.specs.Share.{share, excess}
 use Rattle.integers.specs.Sum.{Within}
 use Rattle.integers.specs.Places.{tabulate, range, select, others}
 use Rattle.integers.proofs.Parts.{linear, abs}
@@ -26,7 +26,7 @@ use Rattle.index.proofs.Lists.{select-next, select-past}
 use Rattle.instance.specs.Instance.{usable}
 use Rattle.rules.specs.Calls.{costLimit}
 use Rattle.messages.specs.Clash.{Skips}
-use Rattle.messages.specs.EdgeMessage.{positionIn, widthOf, usableIn, usableOf, placesAt, usableCells, cellsAt, edgeAmounts, Shape, Above, Ends, over, lineAt, unbounded, leastAt, turnedLeast}
+use Rattle.messages.specs.EdgeMessage.{positionIn, widthOf, usableIn, usableOf, placesAt, usableCells, cellsAt, edgeAmounts, Shape, Ends, over, lineAt, unbounded, leastAt, turnedLeast}
 use Rattle.messages.proofs.RowLaws.{least-of-within}
 use Rattle.messages.proofs.OverLaws.{over-at, over-take, over-again, over-zeros}
 use Rattle.messages.proofs.EdgeLaws.{zeros, position, row-end}
@@ -75,7 +75,7 @@ turned-is (x ∷ l) low r h =
     let m = leastOf (x ∷ l) in
     let b = least-of-within costLimit (x ∷ l) h in
     ap (λ (z : ℤ). turnedLeast z low r) (least-bounded (x ∷ l) h (omega arith))
-    ∙ if-true (negℤ (shareDown (m -ℤ low) r)) (pos 0) (by-test (ltZ m unbounded) (λ e. e) (λ e. absurd (omega (linear, abs m))))
+    ∙ if-true (negℤ (share (m -ℤ low) r)) (pos 0) (by-test (ltZ m unbounded) (λ e. e) (λ e. absurd (omega (linear, abs m))))
 
 -- ---- the cells at a position
 
@@ -137,7 +137,7 @@ pub sized : (b : Bool) {own other : List ℕ} {l : List ℤ} → Ends b own othe
 sized true e p q g = rw (p, q) (e .shape, g)
 sized false e p q g = rw (p, q) (e .shape, g)
 
--- ---- the least of a position is above the least of all, which is that of them
+-- ---- the least of each position, and the least of all, which is that of them
 
 module _ {b : Bool} {own other : List ℕ} {l : List ℤ} (e : Ends b own other l) (v : Within costLimit l) where
   abbrev cost : ℕ → ℤ
@@ -159,14 +159,14 @@ module _ {b : Bool} {own other : List ℕ} {l : List ℤ} (e : Ends b own other 
   costs : (places : List ℕ) → Within costLimit (map cost places)
   costs places = within-map costLimit cost places v
 
-  low-within : natAbs low ≤ costLimit
+  pub low-within : natAbs low ≤ costLimit
   low-within = least-of-within costLimit (usableCells b own other l) (costs (usableOf b own other (length l)))
 
   order : (k : ℕ) → low ≤ℤ leastAt b own other l k
   order k = le-least-mem cost (placesAt b own other (length l) k) (omega (linear, abs low, low-within)) (λ j m. least-of-mem cost (select-mem (at k) (usableOf b own other (length l)) m .0))
 
-  pub edge-above : (k : ℕ) → leastAt b own other l k <ℤ unbounded → Above low (leastAt b own other l k)
-  edge-above k h = record { order = order k; least = low-within; most = least-below (cellsAt b own other l k) (costs (placesAt b own other (length l) k)) h }
+  pub position-within : (k : ℕ) → leastAt b own other l k <ℤ unbounded → natAbs (leastAt b own other l k) ≤ costLimit
+  position-within k = least-below (cellsAt b own other l k) (costs (placesAt b own other (length l) k))
 
   pub edge-least : leastOf (take (length own) (over (leastAt b own other l) (length own) zeros)) ≡ low
   unfolding tabulate

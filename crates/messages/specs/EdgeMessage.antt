@@ -8,7 +8,7 @@ use lib.ListN.{length, getD, drop}
 use lib.IntN.{ℤ, pos, negℤ, natAbs, _-ℤ_}
 use lib.Signed.{_≤ℤ_, ltZ}
 use Rattle.integers.specs.Least.{leastFrom, leastOf}
-use Rattle.integers.specs.Share.{shareDown, excess}
+use Rattle.integers.specs.Share.{share, excess}
 use Rattle.integers.specs.Places.{tabulate, select, range}
 use Rattle.integers.specs.Rows.{part}
 use Rattle.integers.proofs.Ranges.{shifted}
@@ -22,7 +22,7 @@ positionIn byRow width j = cond byRow (j / width) (j % width)
 
 -- kind 1: for each position its distance from the node's least, one r-th, rounded down; 16 places, the rest 0
 unfoldable pub nodeAmounts : List ℤ → ℕ → List ℤ
-nodeAmounts row r = tabulate 16 (λ k. cond (ltb k (length row)) (shareDown (getD row k (pos 0) -ℤ leastOf row) r) (pos 0))
+nodeAmounts row r = tabulate 16 (λ k. cond (ltb k (length row)) (share (getD row k (pos 0) -ℤ leastOf row) r) (pos 0))
 
 -- ---- the usable cells (document 02, wish 2)
 
@@ -76,12 +76,6 @@ pub record Shape (width height : ℕ) (cells : List ℤ) : Type 0 where
 
 -- ---- what the functions on the way cite
 
--- a cost at or above the least
-pub record Above (low cost : ℤ) : Type 0 where
-  pub order : low ≤ℤ cost
-  pub least : natAbs low ≤ costLimit
-  pub most : natAbs cost ≤ costLimit
-
 -- a list of which the first n elements are f of their places, and the others are as they were
 unfoldable pub over : (ℕ → ℤ) → ℕ → List ℤ → List ℤ
 over f n l = tabulate n f ++ drop n l
@@ -104,7 +98,7 @@ leastAt byRow own other cells k = leastFrom unbounded (cellsAt byRow own other c
 
 -- what such a least gives down to the least of all, turned round: 0 of no cells
 unfoldable pub turnedLeast : ℤ → ℤ → ℕ → ℤ
-turnedLeast cost low r = cond (ltZ cost unbounded) (negℤ (shareDown (cost -ℤ low) r)) (pos 0)
+turnedLeast cost low r = cond (ltZ cost unbounded) (negℤ (share (cost -ℤ low) r)) (pos 0)
 
 -- an edge's table with the labels of its ends, of which the other's rise; a cell of it is usable
 pub record Ends (byRow : Bool) (own other : List ℕ) (cells : List ℤ) : Type 0 where

@@ -7,7 +7,7 @@ use Prim.Native.Nat.{ℕ, _+_, _≤_, _<_}
 use lib.ListN.{length, getD, take, drop}
 use lib.IntN.{ℤ, pos, negℤ, _-ℤ_}
 use Rattle.integers.specs.Least.{leastOf}
-use Rattle.integers.specs.Share.{shareDown, excess}
+use Rattle.integers.specs.Share.{share, excess}
 use Rattle.integers.specs.Sum.{Within}
 use Rattle.integers.specs.Places.{every}
 use Rattle.integers.specs.Checks.{within}
@@ -37,7 +37,7 @@ module _ (I : Instance) (nodes edges : List ℤ) where
   edgeAmount turned u e r i =
       cond turned
       (negℤ (excess (map (λ j. getD edges j (pos 0)) (endPlaces I e u i)) (leastOf (map (λ j. getD edges j (pos 0)) (usablePlaces I e))) r))
-      (shareDown (getD nodes i (pos 0) -ℤ leastOf (map (λ j. getD nodes j (pos 0)) (nodePlaces I u))) r)
+      (share (getD nodes i (pos 0) -ℤ leastOf (map (λ j. getD nodes j (pos 0)) (nodePlaces I u))) r)
 
   -- the costs of node u once p of each place is given away, and the cells of edge e once each has received it
   abbrev pub givenRow : ℕ → (ℕ → ℤ) → List ℤ

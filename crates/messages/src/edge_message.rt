@@ -17,7 +17,7 @@ ghost use lib.ListN.{length, getD, set, replicate};
 ghost use lib.IntN.{pos, negℤ, natAbs, _+ℤ_, _-ℤ_};
 ghost use lib.Signed.{_<ℤ_};
 ghost use Rattle.integers.specs.Least.{leastFrom, without};
-ghost use Rattle.integers.specs.Share.{shareDown};
+ghost use Rattle.integers.specs.Share.{share};
 ghost use Rattle.integers.specs.Sum.{Within};
 ghost use Rattle.integers.specs.Places.{every};
 ghost use Rattle.integers.specs.Checks.{within};
@@ -25,34 +25,25 @@ ghost use Rattle.integers.proofs.Ranges.{shifted};
 ghost use mir.Syntax.{w64};
 ghost use mir.Val.{SFits};
 ghost use Rattle.rules.specs.Calls.{costLimit};
-ghost use Rattle.messages.specs.EdgeMessage.{nodeAmounts, edgeAmounts, takenOf, movedCells, movedLine, Shape, Above, Ends, over, lineAt, unbounded, leastAt, turnedLeast};
+ghost use Rattle.messages.specs.EdgeMessage.{nodeAmounts, edgeAmounts, takenOf, movedCells, movedLine, Shape, Ends, over, lineAt, unbounded, leastAt, turnedLeast};
 
-// One r-th of how far a cost is above the least, rounded down.
-fn above(cost: i64, low: i64, share: u8) -> i64
-    requires { ⌜ Above low cost ⌝ }
-    requires { ⌜ 1 ≤ share ⌝ }
-    ensures { λ p. ⌜ p ≡ shareDown (cost -ℤ low) share ⌝ }
+// A share of how far a cost is above the least, turned round.
+fn turned(cost: i64, low: i64, r: u8) -> i64
+    requires { ⌜ 1 ≤ r ⌝ }
+    requires { ⌜ (natAbs cost ≤ costLimit) × (natAbs low ≤ costLimit) ⌝ }
+    ensures { λ p. ⌜ p ≡ negℤ (share (cost -ℤ low) r) ⌝ }
 {
-    share_of(cost - low, share)
-}
-
-// The same turned round.
-fn turned(cost: i64, low: i64, share: u8) -> i64
-    requires { ⌜ Above low cost ⌝ }
-    requires { ⌜ 1 ≤ share ⌝ }
-    ensures { λ p. ⌜ p ≡ negℤ (shareDown (cost -ℤ low) share) ⌝ }
-{
-    -above(cost, low, share)
+    -share_of(cost, low, r)
 }
 
 // The same of the least of a position, and 0 if that has no usable cell.
-fn turned_least(cost: i64, low: i64, share: u8) -> i64
-    requires { ⌜ (cost <ℤ unbounded → Above low cost) ⌝ }
-    requires { ⌜ 1 ≤ share ⌝ }
-    ensures { λ p. ⌜ p ≡ turnedLeast cost low share ⌝ }
+fn turned_least(cost: i64, low: i64, r: u8) -> i64
+    requires { ⌜ 1 ≤ r ⌝ }
+    requires { ⌜ (cost <ℤ unbounded → natAbs cost ≤ costLimit) × (natAbs low ≤ costLimit) ⌝ }
+    ensures { λ p. ⌜ p ≡ turnedLeast cost low r ⌝ }
 {
     if cost < UNBOUNDED {
-        turned(cost, low, share)
+        turned(cost, low, r)
     } else {
         0
     }
@@ -69,7 +60,7 @@ pub(crate) fn node_amounts(row: &[i64], share: u8) -> [i64; 16]
     let mut amounts = [0; 16];
     let mut k = 0;
     while k < row.len() {
-        amounts[k] = above(row[k], low, share);
+        amounts[k] = share_of(row[k], low, share);
         k += 1;
     }
     amounts
@@ -78,8 +69,8 @@ pub(crate) fn node_amounts(row: &[i64], share: u8) -> [i64; 16]
 // What the least of each of the first `many` places gives.
 fn turn_all(least: &mut [i64; 16], many: usize, low: i64, share: u8)
     requires { ⌜ (many ≤ 16) × (length (now least) ≡ 16) ⌝ }
-    requires { ⌜ 1 ≤ share ⌝ }
-    requires { ⌜ ((k : ℕ) → k < many → getD (now least) k (pos 0) <ℤ unbounded → Above low (getD (now least) k (pos 0))) ⌝ }
+    requires { ⌜ (1 ≤ share) × (natAbs low ≤ costLimit) ⌝ }
+    requires { ⌜ ((k : ℕ) → k < many → getD (now least) k (pos 0) <ℤ unbounded → natAbs (getD (now least) k (pos 0)) ≤ costLimit) ⌝ }
     ensures { λ _. ⌜ now (least .exit) ≡ over (λ k. turnedLeast (getD (now (least .entry)) k (pos 0)) low share) many (now (least .entry)) ⌝ }
 {
     let mut k = 0;

@@ -104,7 +104,8 @@ fn label_amount(
 {
     let label = label_at(sheet, view, place);
     share_of(
-        minus(labels[place], label_rival(labels, holders, label, place)),
+        labels[place],
+        label_rival(labels, holders, label, place),
         share,
     )
 }

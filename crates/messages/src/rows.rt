@@ -10,7 +10,7 @@ ghost use lib.IntN.{pos, natAbs, _+ℤ_, _-ℤ_};
 ghost use mir.Syntax.{w64};
 ghost use mir.Val.{SFits, ofZ};
 ghost use Rattle.integers.specs.Least.{minℤ, leastFrom, leastOf, without};
-ghost use Rattle.integers.specs.Share.{share, amount};
+ghost use Rattle.integers.specs.Share.{nearest, share, amount};
 ghost use Rattle.integers.specs.Sum.{Within};
 ghost use Rattle.integers.specs.Places.{every};
 ghost use Rattle.integers.specs.Checks.{within};
@@ -110,15 +110,37 @@ pub(crate) fn rival(row: &[i64], k: usize) -> i64
     least_but(row, k, row[other])
 }
 
-// One r-th of the distance `d`, rounded toward zero. Most shares are 1, and a division takes long.
-pub(crate) fn share_of(d: i64, r: u8) -> i64
+// One r-th of `n`, to the nearest whole number. An exact half goes to the even one: it counts as more where the quotient is odd.
+fn nearest_to(n: u64, r: u8) -> u64
+    requires { ⌜ (1 ≤ r) × (n ≤ 2 ^ 41) ⌝ }
+    ensures { λ p. ⌜ p ≡ nearest n r ⌝ }
+{
+    let by = r as u64;
+    let quotient = n / by;
+    let rest = n % by;
+    let next = quotient + 1;
+    if by < 2 * rest + quotient % 2 {
+        next
+    } else {
+        quotient
+    }
+}
+
+// A share of how far a cost is above another, or below it. Most shares are 1, and a division takes long.
+pub(crate) fn share_of(cost: i64, low: i64, r: u8) -> i64
     requires { ⌜ 1 ≤ r ⌝ }
-    ensures { λ p. ⌜ p ≡ share d r ⌝ }
+    requires { ⌜ (natAbs cost ≤ costLimit) × (natAbs low ≤ costLimit) ⌝ }
+    ensures { λ p. ⌜ p ≡ share (cost -ℤ low) r ⌝ }
 {
     if r == 1 {
-        return d;
+        return cost - low;
     }
-    d / (r as i64)
+    if cost < low {
+        let part = nearest_to((low - cost) as u64, r);
+        minus(0, part as i64)
+    } else {
+        nearest_to((cost - low) as u64, r) as i64
+    }
 }
 
 // The bits of a cost.
@@ -202,5 +224,5 @@ pub(crate) fn amount_of(row: &[i64], k: usize, share: u8) -> i64
     if row.len() < 2 {
         return 0;
     }
-    share_of(row[k] - rival(row, k), share)
+    share_of(row[k], rival(row, k), share)
 }

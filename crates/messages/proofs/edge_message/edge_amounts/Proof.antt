@@ -16,7 +16,7 @@ use Rattle.integers.proofs.Bits.{answer}
 use Rattle.messages.specs.EdgeMessage.{usableCells, over, leastAt, turnedLeast}
 use Rattle.messages.proofs.OverLaws.{length-over, over-at}
 use Rattle.messages.proofs.EdgeLaws.{zeros}
-use Rattle.messages.proofs.UsableLaws.{own-few, own-some, edge-above, edge-least, edge-is}
+use Rattle.messages.proofs.UsableLaws.{own-few, own-some, low-within, position-within, edge-least, edge-is}
 use Rattle.messages.proofs.edge_message.edge_amounts.Statement.{statement}
 use Rattle.messages.proofs.edge_message.edge_amounts.Tie as tie
 
@@ -61,8 +61,8 @@ turn-all-requires c κs =
     let p = c .before .before .before in (
       (few p, long p),
       (
-        q p .pre .1 .0,
-        λ k h. rw (low (c .before), ap (λ (l : List ℤ). getD l k (pos 0)) (p .least-by .ensures) ∙ over-at (f p) (length (own p)) zeros k h) (edge-above (q p .pre .0) (q p .pre .1 .1) k),
+        (q p .pre .1 .0, rw (low (c .before)) (low-within (q p .pre .0) (q p .pre .1 .1))),
+        λ k h. rw (ap (λ (l : List ℤ). getD l k (pos 0)) (p .least-by .ensures) ∙ over-at (f p) (length (own p)) zeros k h) (position-within (q p .pre .0) (q p .pre .1 .1) k),
       ),
     )
 

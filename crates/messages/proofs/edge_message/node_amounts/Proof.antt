@@ -8,37 +8,39 @@ use denote.Ref.{now}
 use mir.Syntax.{w64}
 use mir.Val.{toZ, ofZ}
 use Rattle.integers.specs.Least.{leastOf}
-use Rattle.integers.specs.Share.{shareDown}
+use Rattle.integers.specs.Share.{share}
 use Rattle.integers.proofs.Bits.{same, answer}
+use Rattle.rules.specs.Calls.{costLimit}
+use Rattle.messages.proofs.RowLaws.{least-of-within}
 use Rattle.messages.proofs.OverLaws.{Overwritten, written-none, written-more, written-all}
-use Rattle.messages.proofs.EdgeLaws.{zeros, node-is, node-above}
+use Rattle.messages.proofs.EdgeLaws.{zeros, node-is}
 use Rattle.messages.proofs.edge_message.node_amounts.Statement.{statement}
 use Rattle.messages.proofs.edge_message.node_amounts.Tie as tie
 
 abbrev Inv-loop : tie.InvT-loop
-Inv-loop row share low amounts₀ k₀ amounts k = Overwritten (λ j. shareDown (getD row j (pos 0) -ℤ leastOf row) share) (length row) zeros k amounts
+Inv-loop row r low amounts₀ k₀ amounts k = Overwritten (λ j. share (getD row j (pos 0) -ℤ leastOf row) r) (length row) zeros k amounts
 
 abbrev μ-loop : tie.MeasureT-loop
-μ-loop row share low amounts₀ k₀ amounts k = length row - k
+μ-loop row r low amounts₀ k₀ amounts k = length row - k
 
 -- the least read back
 low : (c : tie.After-least-of Inv-loop μ-loop) → toZ w64 (ofZ w64 (c .least-of .result)) ≡ leastOf (now (c .before .args .row))
 low c = answer (c .least-of .ok) (c .least-of .ensures)
 
-above-requires : tie.Need-above-requires Inv-loop μ-loop
-above-requires c κs =
+share-of-requires : tie.Need-share-of-requires Inv-loop μ-loop
+share-of-requires c κs =
     let q = c .before .before .before .before in
     let l = now (q .args .row) in
     let k = c .before .before .loop .k in
-    (rw (low (c .before .before .before), same (getD l k (pos 0)) (c .above-arg .given)) (node-above l k (c .before .loop-test .taken) (q .pre .1 .1)), q .pre .1 .0)
+    (q .pre .1 .0, rw (low (c .before .before .before), same (getD l k (pos 0)) (c .share-of-arg .given)) (q .pre .1 .1 k, least-of-within costLimit l (q .pre .1 .1)))
 
 loop-again : tie.Need-loop-again Inv-loop μ-loop
 loop-again c =
     let p = c .before .before .before in
     let q = p .before .before in
     written-more (p .loop .inv) (c .before .before .loop-test .taken)
-    (answer (c .above .ok) (c .above .ensures)
-    ∙ ap₂ (λ (x b : ℤ). shareDown (x -ℤ b) (q .args .share)) (same (getD (now (q .args .row)) (p .loop .k) (pos 0)) (c .before .above-arg .given)) (low (p .before)))
+    (answer (c .share-of .ok) (c .share-of .ensures)
+    ∙ ap₂ (λ (x b : ℤ). share (x -ℤ b) (q .args .share)) (same (getD (now (q .args .row)) (p .loop .k) (pos 0)) (c .before .share-of-arg .given)) (low (p .before)))
 
 returns : tie.Need-returns Inv-loop μ-loop
 returns c = let q = c .before .before .before in written-all (c .before .loop .inv) (c .loop-test .left) ∙ node-is (now (q .args .row)) (q .args .share) (q .pre .0 .1)
@@ -53,7 +55,7 @@ node-amounts-spec =
     (λ c. written-none _ _ zeros (c .before .pre .0 .1))
     (λ c. search needs)
     (λ c. search needs)
-    above-requires
+    share-of-requires
     (λ c. search needs)
     (λ c. search needs)
     (λ c. search needs)

@@ -26,7 +26,7 @@ turned-least-requires c κs =
     let p = c .before .before in
     let q = p .before in
     let k = p .loop .k in
-    (rw (toZ-ofZ (q .fits .low), same (getD (p .loop .least) k (pos 0)) (c .turned-least-arg .given), written-next (p .loop .inv)) (q .pre .1 .1 k (c .before .loop-test .taken)), q .pre .1 .0)
+    (q .pre .1 .0 .0, rw (toZ-ofZ (q .fits .low), same (getD (p .loop .least) k (pos 0)) (c .turned-least-arg .given), written-next (p .loop .inv)) (q .pre .1 .1 k (c .before .loop-test .taken), q .pre .1 .0 .1))
 
 loop-again : tie.Need-loop-again Inv-loop μ-loop
 loop-again c =

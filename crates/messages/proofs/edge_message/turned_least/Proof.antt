@@ -6,7 +6,7 @@ use lib.Signed.{ltZ}
 use mir.Syntax.{w64}
 use mir.Val.{toZ, ofZ}
 use mir.Facts.{toZ-ofZ}
-use Rattle.integers.specs.Share.{shareDown}
+use Rattle.integers.specs.Share.{share}
 use Rattle.integers.proofs.Parts.{linear}
 use Rattle.integers.proofs.Bits.{answer, read}
 use Rattle.integers.proofs.Places.{if-true, if-false}
@@ -21,7 +21,7 @@ tested q e = ap (λ (z : ℤ). ltZ z unbounded) (sym (toZ-ofZ (q .fits .cost))) 
 turned-requires : tie.Need-turned-requires
 turned-requires c κs =
     let q = c .before in
-    (rw (toZ-ofZ (q .fits .cost), toZ-ofZ (q .fits .low)) (q .pre .0 (omega (linear, read (q .fits .cost)))), q .pre .1)
+    (q .pre .0, rw (toZ-ofZ (q .fits .cost), toZ-ofZ (q .fits .low)) (q .pre .1 .0 (omega (linear, read (q .fits .cost))), q .pre .1 .1))
 
 returns : tie.Need-returns
 unfolding turnedLeast
@@ -29,12 +29,12 @@ returns c =
     let q = c .before .before in
     let x = q .args in
     answer (c .turned .ok) (c .turned .ensures)
-    ∙ ap₂ (λ (z b : ℤ). negℤ (shareDown (z -ℤ b) (x .share))) (toZ-ofZ (q .fits .cost)) (toZ-ofZ (q .fits .low))
-    ∙ sym (if-true (negℤ (shareDown (x .cost -ℤ x .low) (x .share))) (pos 0) (tested q (c .before .if1 .taken)))
+    ∙ ap₂ (λ (z b : ℤ). negℤ (share (z -ℤ b) (x .r))) (toZ-ofZ (q .fits .cost)) (toZ-ofZ (q .fits .low))
+    ∙ sym (if-true (negℤ (share (x .cost -ℤ x .low) (x .r))) (pos 0) (tested q (c .before .if1 .taken)))
 
 returns-2 : tie.Need-returns-2
 unfolding turnedLeast
-returns-2 c = let x = c .before .args in sym (if-false (negℤ (shareDown (x .cost -ℤ x .low) (x .share))) (pos 0) (tested (c .before) (c .if1 .left)))
+returns-2 c = let x = c .before .args in sym (if-false (negℤ (share (x .cost -ℤ x .low) (x .r))) (pos 0) (tested (c .before) (c .if1 .left)))
 
 pub turned-least-spec : {M : Type 1} → statement M
 turned-least-spec = tie.close (tie.spec turned-requires returns returns-2)

@@ -1,16 +1,16 @@
 -- `label_amount` meets its contract: a share of the distance from the least of 0 and the label's other costs.
-use mathlib.Core.Path.{_≡_, ap, ap₂, _∙_}
+use mathlib.Core.Path.{_≡_, ap₂, _∙_}
 use Prim.Native.Nat.{_<_}
 use lib.ListN.{getD}
 use lib.IntN.{ℤ, pos, _-ℤ_}
 use denote.Ref.{now}
 use Rattle.integers.specs.Share.{share}
-use Rattle.integers.proofs.Bits.{same}
+use Rattle.integers.proofs.Bits.{same, answer}
 use Rattle.instance.specs.Sheet.{instanceOf}
 use Rattle.instance.proofs.LaidOut.{label-known}
 use Rattle.messages.specs.LabelMessage.{labelRival}
 use Rattle.messages.proofs.SheetLaws.{proper}
-use Rattle.messages.proofs.LabelMessageLaws.{label-apart, label-shared}
+use Rattle.messages.proofs.LabelMessageLaws.{rival-within, label-shared}
 use Rattle.messages.proofs.RivalLaws.{rival-is}
 use native.Mathlib.Omega.{arith}
 use borrow.Author.Needs.{needs}
@@ -31,11 +31,11 @@ rival p =
     let l = p .before .before .label-at in
     p .label-rival .ensures ∙ rival-is (instanceOf (now (a .sheet))) (q .pre .1 .0) (now (a .labels)) (a .place) (l .result) (row (p .before .before)) (l .ensures .0)
 
-mul-minus : tie.Need-mul-minus
-mul-minus c = let q = c .before .before in omega (arith, q .pre .0 .1, q .pre .1 .1 .size)
+mul-share-of : tie.Need-mul-share-of
+mul-share-of c = let q = c .before .before in omega (arith, q .pre .0 .1, q .pre .1 .1 .size)
 
-shared-slice-copy-out-minus : tie.Need-shared-slice-copy-out-minus
-shared-slice-copy-out-minus c = let q = c .before .before in omega (arith, q .pre .0 .1, q .pre .1 .1 .size)
+shared-slice-copy-out-share-of : tie.Need-shared-slice-copy-out-share-of
+shared-slice-copy-out-share-of c = let q = c .before .before in omega (arith, q .pre .0 .1, q .pre .1 .1 .size)
 
 label-rival-requires : tie.Need-label-rival-requires
 label-rival-requires c κs =
@@ -44,32 +44,25 @@ label-rival-requires c κs =
     let x = q .pre .1 .0 in
     ((row (c .before), x .few (l .result) (row (c .before))), λ j h. omega (arith, x .inside (l .result) j (row (c .before)) h, q .pre .1 .1 .size))
 
-minus-requires : tie.Need-minus-requires
-minus-requires c κs =
+share-of-requires : tie.Need-share-of-requires
+share-of-requires c κs =
     let q = c .before .before .before .before in
     let a = q .args in
-    rw (same (getD (now (a .labels)) (a .place) (pos 0)) (c .before .minus-arg .given), same (c .label-rival .result) (c .label-rival .ok), rival c)
-    (label-apart (instanceOf (now (a .sheet))) (now (a .labels)) (q .pre .1 .1 .range) (a .place))
+    let l = now (a .labels) in
+    let h = q .pre .1 .1 .range in
+    (
+      q .pre .0 .2,
+      rw (same (getD l (a .place) (pos 0)) (c .before .share-of-arg .given), same (c .label-rival .result) (c .label-rival .ok), rival c) (h (a .place), rival-within (instanceOf (now (a .sheet))) l h (a .place)),
+    )
 
 returns : tie.Need-returns
 returns c =
-    let p = c .before .before in
+    let p = c .before in
     let a = p .before .before .before .before .args in
     let l = now (a .labels) in
-    same (c .share-of .result) (c .share-of .ok) ∙ c .share-of .ensures
-    ∙ ap (λ (z : ℤ). share z (a .share))
-    (same (c .before .minus .result) (c .before .minus .ok) ∙ c .before .minus .ensures
-    ∙ ap₂ _-ℤ_ (same (getD l (a .place) (pos 0)) (p .before .minus-arg .given)) (same (p .label-rival .result) (p .label-rival .ok) ∙ rival p))
+    answer (c .share-of .ok) (c .share-of .ensures)
+    ∙ ap₂ (λ (z b : ℤ). share (z -ℤ b) (a .share)) (same (getD l (a .place) (pos 0)) (p .before .share-of-arg .given)) (answer (p .label-rival .ok) (rival p))
     ∙ label-shared (instanceOf (now (a .sheet))) l (a .place) (a .share)
 
 pub label-amount-spec : {M : Type 1} → statement M
-label-amount-spec =
-    tie.close
-    (tie.spec
-    (λ c κs. search needs)
-    mul-minus
-    shared-slice-copy-out-minus
-    label-rival-requires
-    minus-requires
-    (λ c κs. search needs)
-    returns)
+label-amount-spec = tie.close (tie.spec (λ c κs. search needs) mul-share-of shared-slice-copy-out-share-of label-rival-requires share-of-requires returns)
