@@ -6,7 +6,7 @@ use mathlib.Core.Option.{bind}
 use Prim.Native.Nat.{ℕ}
 use lib.IntN.{pos, _+ℤ_, _-ℤ_}
 use Rattle.integers.specs.Least.{minℤ, leastOf, leastFrom}
-use Rattle.integers.specs.Share.{nearest, share, excess, amount}
+use Rattle.integers.specs.Share.{toEven, nearest, share, excess, amount}
 use Rattle.integers.specs.Places.{range, among, select, others, tabulate, every, total, offset, only}
 use Rattle.integers.specs.Checks.{below, firstFailure, within}
 use Rattle.instance.specs.Instance.{exclusive, usable, first, tableSize, table, cell}
@@ -48,5 +48,5 @@ pub one-higher : (printed sheet list ≡ ascii "done 1\nstuck 0\nbound 0\ncost 1
     × (textOf (after .finished) (after .stuck) (after .refusal) (raised (reportOf sheet costLimit (after .buffers))) ≡ ascii "done 1\nstuck 0\nbound 1\ncost 1\ngap 0\n")
     × Matching (instanceOf sheet) (1 ∷ 0 ∷ [])
     × (priceOf (instanceOf sheet) (1 ∷ 0 ∷ []) ≡ pos 0)
-unfolding after raised range among select others tabulate every total offset only below firstFailure within minℤ leastOf leastFrom nearest share excess amount exclusive usable first tableSize table cell endPlace nodePlaces labelPlaces edgePlaces usablePlaces endPlaces instanceOf rises markAt shortEnough marked countsOk degreesFit degreesOk endsFit endsOk cellsOk lengthOk labelsOk pricesOk usableOk checks refusalOf inRange noneKept opened nodeLeast edgeLeast labelLeast bound chosen chosenCell costOf toLabel toEdge deltas filled bestFrom best free key choice roundBelow adopt bind proceed rounded kindOf records legalShare legalEdge legalPosition legalMessage checked effect run runList lengthsOk isMatching incumbentOk lentChecks lentRefusal runRefusal runOf told reportOf digitsIn decimal signed line refusedLine countLines keptLines boundLines atRecords stopLine reportText textOf ranText printed
+unfolding after raised range among select others tabulate every total offset only below firstFailure within minℤ leastOf leastFrom toEven nearest share excess amount exclusive usable first tableSize table cell endPlace nodePlaces labelPlaces edgePlaces usablePlaces endPlaces instanceOf rises markAt shortEnough marked countsOk degreesFit degreesOk endsFit endsOk cellsOk lengthOk labelsOk pricesOk usableOk checks refusalOf inRange noneKept opened nodeLeast edgeLeast labelLeast bound chosen chosenCell costOf toLabel toEdge deltas filled bestFrom best free key choice roundBelow adopt bind proceed rounded kindOf records legalShare legalEdge legalPosition legalMessage checked effect run runList lengthsOk isMatching incumbentOk lentChecks lentRefusal runRefusal runOf told reportOf digitsIn decimal signed line refusedLine countLines keptLines boundLines atRecords stopLine reportText textOf ranText printed
 one-higher = (refl, refl, is-matching (instanceOf sheet) refl refl, refl)

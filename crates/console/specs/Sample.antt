@@ -5,7 +5,7 @@ use mathlib.Core.Option.{bind}
 use Prim.Native.Nat.{ℕ}
 use Prim.Native.String.{String}
 use Rattle.integers.specs.Least.{minℤ, leastOf, leastFrom}
-use Rattle.integers.specs.Share.{nearest, share, excess, amount}
+use Rattle.integers.specs.Share.{toEven, nearest, share, excess, amount}
 use Rattle.integers.specs.Places.{range, among, select, others, tabulate, every, total, offset, only}
 use Rattle.integers.specs.Checks.{below, firstFailure, within}
 use Rattle.instance.specs.Instance.{exclusive, usable, first, tableSize, table, cell}
@@ -43,5 +43,5 @@ runs =
     ∷ []
 
 pub runs-hold : map (λ r. printed (r .sheet) (r .list)) runs ≡ map (λ r. ascii (r .text)) runs
-unfolding runs range among select others tabulate every total offset only below firstFailure within minℤ leastOf leastFrom nearest share excess amount exclusive usable first tableSize table cell endPlace nodePlaces labelPlaces edgePlaces usablePlaces endPlaces instanceOf rises markAt shortEnough marked countsOk degreesFit degreesOk endsFit endsOk cellsOk lengthOk labelsOk pricesOk usableOk checks refusalOf inRange noneKept opened nodeLeast edgeLeast labelLeast bound chosen chosenCell costOf toLabel toEdge deltas filled bestFrom best free key choice roundBelow adopt bind proceed rounded kindOf records legalShare legalEdge legalPosition legalMessage checked effect run runList lengthsOk isMatching incumbentOk lentChecks lentRefusal runRefusal runOf told reportOf digitsIn decimal signed line refusedLine countLines keptLines boundLines atRecords stopLine reportText textOf ranText printed
+unfolding runs range among select others tabulate every total offset only below firstFailure within minℤ leastOf leastFrom toEven nearest share excess amount exclusive usable first tableSize table cell endPlace nodePlaces labelPlaces edgePlaces usablePlaces endPlaces instanceOf rises markAt shortEnough marked countsOk degreesFit degreesOk endsFit endsOk cellsOk lengthOk labelsOk pricesOk usableOk checks refusalOf inRange noneKept opened nodeLeast edgeLeast labelLeast bound chosen chosenCell costOf toLabel toEdge deltas filled bestFrom best free key choice roundBelow adopt bind proceed rounded kindOf records legalShare legalEdge legalPosition legalMessage checked effect run runList lengthsOk isMatching incumbentOk lentChecks lentRefusal runRefusal runOf told reportOf digitsIn decimal signed line refusedLine countLines keptLines boundLines atRecords stopLine reportText textOf ranText printed
 runs-hold = refl

@@ -14,13 +14,13 @@ returns : tie.Need-returns
 returns c =
     let n = c .before .args .n in
     let r = c .before .args .r in
-    sym (nearest-by n r ∙ if-true (n / r + 1) (n / r) (lt-ltb r (2 * (n % r) + n / r % 2) (c .if1 .taken)))
+    sym (nearest-by n r ∙ if-true (n / r + 1) (n / r) (lt-ltb r (2 * (n % r) + n / r % 2) (omega (arith, c .if1 .taken))))
 
 returns-2 : tie.Need-returns-2
 returns-2 c =
     let n = c .before .args .n in
     let r = c .before .args .r in
-    sym (nearest-by n r ∙ if-false (n / r + 1) (n / r) (le-ltb r (2 * (n % r) + n / r % 2) (c .if1 .left)))
+    sym (nearest-by n r ∙ if-false (n / r + 1) (n / r) (le-ltb r (2 * (n % r) + n / r % 2) (omega (arith, c .if1 .left))))
 
 pub nearest-to-spec : {M : Type 1} → statement M
 nearest-to-spec =
