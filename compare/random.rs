@@ -1,5 +1,7 @@
 //! Random comparison of both sides: every answer and every buffer after every call.
 
+use std::cmp::Ordering;
+
 use crate::calls::{Buffers, Calls, Twin, COUNTS, READING, SPAN, VALUES};
 use crate::exports::Proved;
 use crate::sheets::{self, Rng};
@@ -110,17 +112,64 @@ const SEEN: [&str; Seen::LoweredOver as usize + 1] = [
     "runs refused 13 at kind 2 for unusable cells alone",
 ];
 
+/// What shows how amounts are rounded, by place in ROUNDED.
+#[derive(Clone, Copy)]
+enum Rounded {
+    EvenShare,
+    OddShare,
+    HalfAtEven,
+    HalfAtOdd,
+    Less,
+    JustLess,
+    More,
+    JustMore,
+    Nothing,
+    One,
+    Far,
+    Refused,
+    Spared,
+}
+
+const ROUNDED: [&str; Rounded::Spared as usize + 1] = [
+    "with an even share",
+    "with an odd share",
+    "with an exact half at an even quotient, toward zero",
+    "with an exact half at an odd quotient, away from zero",
+    "with less than a half, toward zero",
+    "of these as near to a half as can be",
+    "with more than a half, away from zero",
+    "of these as near to a half as can be",
+    "with an amount of 0 from another distance",
+    "with an amount of 1 or -1 from a distance less than the share",
+    "with a remainder of a distance over 2^39",
+    "refused 13, which would not be if rounded toward zero",
+    "done, which would be refused 13 if rounded away from zero",
+];
+/// Kinds, with the sign of the distance.
+const MOVES: [&str; 6] = ["1", "2", "3 +", "3 -", "4 +", "4 -"];
+
 struct Tally {
     /// How often each call answered each refusal, 0 being none.
     refusals: [[u64; REFUSALS]; CALLS.len()],
     seen: [u64; SEEN.len()],
+    rounded: [[u64; MOVES.len()]; ROUNDED.len()],
 }
 
 impl Tally {
-    const EMPTY: Self = Tally { refusals: [[0; REFUSALS]; CALLS.len()], seen: [0; SEEN.len()] };
+    const EMPTY: Self = Tally {
+        refusals: [[0; REFUSALS]; CALLS.len()],
+        seen: [0; SEEN.len()],
+        rounded: [[0; MOVES.len()]; ROUNDED.len()],
+    };
 
     fn see(&mut self, what: Seen, occurs: bool) {
         self.seen[what as usize] += u64::from(occurs);
+    }
+
+    /// Kinds 1 and 2 have no distance below 0.
+    fn see_rounded(&mut self, what: Rounded, kind: u8, below: bool, occurs: bool) {
+        let place = usize::from(kind - 1) + usize::from(kind == 4) + usize::from(below);
+        self.rounded[what as usize][place] += u64::from(occurs);
     }
 }
 
@@ -145,6 +194,26 @@ impl Cell {
 
     fn vanished(&self) -> bool {
         self.labels == [VANISHED; 2]
+    }
+}
+
+/// A record of kind 1 to 4.
+struct Move {
+    kind: u8,
+    share: i64,
+    /// Of an edge, or a position of the node.
+    index: usize,
+    /// Where the node's cells begin, and how many it has.
+    start: usize,
+    degree: usize,
+    /// For kinds 1 and 2: which end of the edge the node is.
+    end: usize,
+}
+
+impl Move {
+    /// For kinds 3 and 4.
+    fn at_index(&self, distance: i64) -> Vec<i64> {
+        (0..self.degree).map(|position| if position == self.index { distance } else { 0 }).collect()
     }
 }
 
@@ -218,6 +287,69 @@ impl Layout {
     fn unusable(&self) -> impl Iterator<Item = &Cell> {
         self.tables.iter().flatten().filter(|cell| !cell.usable())
     }
+
+    /// For a record of kind 1 to 4 that exists.
+    fn movement(&self, [kind, node, low, high, share]: [u8; RECORD]) -> Move {
+        let index = usize::from(u16::from_le_bytes([low, high]));
+        let (before, from) = self.labels.split_at(usize::from(node));
+        let start = before.iter().map(Vec::len).sum();
+        let end = usize::from(kind <= 2 && self.ends[index][1] == node);
+        Move { kind, share: i64::from(share), index, start, degree: from[0].len(), end }
+    }
+
+    /// What is divided by the share at each of the node's positions: 0 where nothing moves.
+    fn distances(&self, of: &Move, lent: &Buffers) -> Vec<i64> {
+        let costs = &lent.nodes[of.start..][..of.degree];
+        match of.kind {
+            1 => {
+                let least = costs.iter().min().copied().unwrap_or(0);
+                costs.iter().map(|cost| cost - least).collect()
+            }
+            2 => {
+                let usable = || self.tables[of.index].iter().filter(|cell| cell.usable());
+                let of_edge = least(&lent.edges, usable());
+                let at = |k| least(&lent.edges, usable().filter(|cell| cell.positions[of.end] == k));
+                (0..of.degree).map(|k| at(k).zip(of_edge).map_or(0, |(own, least)| own - least)).collect()
+            }
+            3 => {
+                let others = (0..of.degree).filter(|&k| k != of.index).map(|k| costs[k]);
+                of.at_index(others.min().map_or(0, |least| costs[of.index] - least))
+            }
+            _ => {
+                let labels = self.labels.concat();
+                let own = of.start + of.index;
+                let others = (0..labels.len()).filter(|&cell| cell != own && labels[cell] == labels[own]);
+                let least = others.map(|cell| lent.labels[cell]).fold(0, i64::min);
+                of.at_index(lent.labels[own] - least)
+            }
+        }
+    }
+
+    /// Whether a cost passes the limit if each position moves its amount, with the edge's cells that count.
+    fn passes(&self, of: &Move, lent: &Buffers, amounts: &[i64], counts: impl Fn(&Cell) -> bool) -> bool {
+        let past = |cost: i64| !(-LIMIT..=LIMIT).contains(&cost);
+        // The others move toward their rivals.
+        let rising = match of.kind {
+            1 => &[],
+            3 => &lent.labels[of.start..],
+            _ => &lent.nodes[of.start..],
+        };
+        let cells = if of.kind <= 2 { self.tables[of.index].as_slice() } else { &[] };
+        let sign = if of.kind == 1 { 1 } else { -1 };
+        let moved = |cell: &Cell| lent.edges[cell.place] + sign * amounts[cell.positions[of.end]];
+        rising.iter().zip(amounts).any(|(cost, amount)| past(cost + amount))
+            || cells.iter().any(|cell| counts(cell) && past(moved(cell)))
+    }
+}
+
+/// Of the whole numbers on either side the nearer one, the even one if neither is.
+fn nearest(distance: i64, share: i64) -> i64 {
+    let down = distance.div_euclid(share);
+    match (2 * distance.rem_euclid(share)).cmp(&share) {
+        Ordering::Less => down,
+        Ordering::Equal => down + (down & 1),
+        Ordering::Greater => down + 1,
+    }
 }
 
 fn refusal(bytes: &[u8]) -> Option<Refusal> {
@@ -273,6 +405,11 @@ fn print(seed: u64, count: u64, tally: &Tally) {
     }
     for (what, count) in SEEN.iter().zip(tally.seen) {
         println!("{count:>15}  {what}");
+    }
+    println!("records looked at with a share other than 1, by kind and sign of a distance:");
+    println!("{}", MOVES.map(|kind| format!("{kind:>8}")).concat());
+    for (what, row) in ROUNDED.iter().zip(tally.rounded) {
+        println!("{}  {what}", row.map(|count| format!("{count:>8}")).concat());
     }
 }
 
@@ -359,7 +496,7 @@ fn places(rng: &mut Rng, right: usize) -> usize {
 
 impl Case<'_> {
     fn step(&mut self, rng: &mut Rng) -> Result<(), Difference> {
-        match rng.below(14) {
+        match rng.below(16) {
             0 => self.read(rng),
             1 => self.edge(rng),
             2 => self.open(),
@@ -370,6 +507,7 @@ impl Case<'_> {
             }
             9..=10 => self.report(rng),
             11 => self.with_other_length(rng),
+            12..=13 => self.run_halves(rng),
             _ => {
                 self.poke(rng);
                 self.report(rng)?;
@@ -501,6 +639,19 @@ impl Case<'_> {
         Ok(())
     }
 
+    /// Runs records with one share, most of them, on costs that lie halves of it apart.
+    fn run_halves(&mut self, rng: &mut Rng) -> Result<(), Difference> {
+        let share = some_share(rng);
+        self.poke_halves(rng, i64::from(share));
+        let mut records = self.records(rng);
+        for record in records.chunks_exact_mut(RECORD) {
+            if matches!(record[0], 1..=4) && rng.percent(90) {
+                record[4] = share;
+            }
+        }
+        self.run(rng, &records)
+    }
+
     /// How many nodes take a 255 in the matching kept.
     fn vanished_taken(&self) -> usize {
         let incumbent = &self.twin.incumbent;
@@ -569,67 +720,102 @@ impl Case<'_> {
         }
     }
 
-    /// One of the records done and the one refused with 13, if they are of kind 1 or 2.
+    /// Of each kind from 1 to 4 one of the records done, and the one refused with 13.
     fn see_records(&mut self, rng: &mut Rng, number: u8, records: &[u8], counts: &[u64], before: &Buffers) {
         let (&[done, _], 0 | 12 | 13) = (counts, number) else { return };
         let (records, _) = records.as_chunks::<RECORD>();
         let done = done as usize;
         let first = rng.below(done);
-        let of_edge = |&place: &usize| matches!(records[place][0], 1 | 2);
-        let looked_at = (first..done).chain(0..first).find(of_edge);
-        let refused = Some(done).filter(|place| number == Refusal::Overflow as u8 && of_edge(place));
-        for place in looked_at.into_iter().chain(refused) {
+        let looked_at = (1..=4).filter_map(|kind| {
+            let mut places = (first..done).chain(0..first).filter(|&place| records[place][0] == kind);
+            // Rather with a share to round by.
+            places.clone().find(|&place| records[place][4] != 1).or_else(|| places.next())
+        });
+        let refused = (number == Refusal::Overflow as u8).then_some(done);
+        for place in looked_at.chain(refused) {
             let mut lent = before.clone();
             Twin::run(self.sheet, records[..place].as_flattened(), &mut lent, &mut [0; COUNTS]);
-            self.see_record(records[place], &lent, place == done);
+            let of = self.layout.movement(records[place]);
+            let distances = self.layout.distances(&of, &lent);
+            self.see_rounding(&of, &lent, &distances, place == done);
+            if of.kind <= 2 {
+                self.see_unusable(&of, &lent, &distances, place == done);
+            }
         }
     }
 
-    /// A record of kind 1 or 2 and the buffers before it.
-    fn see_record(&mut self, record: [u8; RECORD], lent: &Buffers, refused: bool) {
-        let [kind, node, low, high, share] = record;
-        let edge = usize::from(u16::from_le_bytes([low, high]));
-        let Layout { labels, ends, tables } = &self.layout;
-        let table = &tables[edge];
-        let end = usize::from(ends[edge][1] == node);
-        let (before, from) = labels.split_at(usize::from(node));
-        let start = before.iter().map(Vec::len).sum::<usize>();
-        let costs = &lent.nodes[start..start + from[0].len()];
+    /// A record of kind 1 to 4, the buffers before it and its distances.
+    fn see_rounding(&mut self, of: &Move, lent: &Buffers, distances: &[i64], refused: bool) {
+        let &Move { kind, share, .. } = of;
+        if share == 1 {
+            return;
+        }
+        let toward_zero = |distance: &i64| distance / share;
+        let away_from_zero = |distance: &i64| distance / share + (distance % share).signum();
+        let twice = |distance: i64| 2 * (distance % share).abs();
+        let odd = |distance: i64| distance / share % 2 != 0;
+        let passes = |amounts: Vec<i64>| self.layout.passes(of, lent, &amounts, |_| true);
+        let refused_toward = passes(distances.iter().map(toward_zero).collect());
+        let refused_away = passes(distances.iter().map(away_from_zero).collect());
+        for below in [false, true] {
+            let sign = if below { -1 } else { 1 };
+            let own: Vec<i64> =
+                distances.iter().copied().filter(|distance| distance.signum() == sign).collect();
+            if own.is_empty() {
+                continue;
+            }
+            if refused {
+                self.tally.see_rounded(Rounded::Refused, kind, below, !refused_toward);
+                continue;
+            }
+            let any = |shows: &dyn Fn(i64) -> bool| own.iter().any(|&distance| shows(distance));
+            let less = |distance| (1..share).contains(&twice(distance));
+            let seen = [
+                (Rounded::EvenShare, share % 2 == 0),
+                (Rounded::OddShare, share % 2 != 0),
+                (Rounded::HalfAtEven, any(&|distance| twice(distance) == share && !odd(distance))),
+                (Rounded::HalfAtOdd, any(&|distance| twice(distance) == share && odd(distance))),
+                (Rounded::Less, any(&less)),
+                (Rounded::JustLess, any(&|distance| less(distance) && twice(distance) + 2 >= share)),
+                (Rounded::More, any(&|distance| twice(distance) > share)),
+                (Rounded::JustMore, any(&|distance| (share + 1..=share + 2).contains(&twice(distance)))),
+                (Rounded::Nothing, any(&|distance| nearest(distance, share) == 0)),
+                (Rounded::One, any(&|distance| distance.abs() < share && nearest(distance, share) != 0)),
+                (Rounded::Far, any(&|distance| distance.abs() > LIMIT / 2 && twice(distance) != 0)),
+                (Rounded::Spared, refused_away),
+            ];
+            for (what, occurs) in seen {
+                self.tally.see_rounded(what, kind, below, occurs);
+            }
+        }
+    }
 
-        let at = |position| table.iter().filter(move |cell| cell.positions[end] == position);
-        let usable_at = |position| at(position).filter(|cell| cell.usable());
-        let of_edge = least(&lent.edges, table.iter().filter(|cell| cell.usable()));
-        let amount = |position: usize| {
-            let distance = match kind {
-                1 => costs.iter().min().map(|least| costs[position] - least),
-                _ => least(&lent.edges, usable_at(position)).zip(of_edge).map(|(own, least)| own - least),
-            };
-            distance.unwrap_or(0) / i64::from(share)
-        };
-        let past = |cost: i64| !(-LIMIT..=LIMIT).contains(&cost);
-        let moved = |cell: &Cell| {
-            let amount = amount(cell.positions[end]);
-            lent.edges[cell.place] + if kind == 1 { amount } else { -amount }
-        };
+    /// A record of kind 1 or 2, the buffers before it and its distances.
+    fn see_unusable(&mut self, of: &Move, lent: &Buffers, distances: &[i64], refused: bool) {
+        let &Move { kind, share, end, .. } = of;
+        let table = &self.layout.tables[of.index];
+        let amounts: Vec<i64> = distances.iter().map(|&distance| nearest(distance, share)).collect();
         let unusable = || table.iter().filter(|cell| !cell.usable());
         if refused {
-            let usable_past = table.iter().any(|cell| cell.usable() && past(moved(cell)));
-            let node_past = kind == 2 && (0..costs.len()).any(|k| past(costs[k] + amount(k)));
-            let alone = !usable_past && !node_past && unusable().any(|cell| past(moved(cell)));
+            let passes = |counts: fn(&Cell) -> bool| self.layout.passes(of, lent, &amounts, counts);
+            let alone = passes(|_| true) && !passes(Cell::usable);
             self.tally.see(if kind == 1 { Seen::RaisedOver } else { Seen::LoweredOver }, alone);
             return;
         }
-        let moves = unusable().any(|cell| moved(cell) != lent.edges[cell.place]);
+        let moves = unusable().any(|cell| amounts[cell.positions[end]] != 0);
         if kind == 1 {
             return self.tally.see(Seen::Raised, moves);
         }
+        let at = |position| table.iter().filter(move |cell| cell.positions[end] == position);
         let below_position = |cell: &Cell| {
-            lower(Some(lent.edges[cell.place]), least(&lent.edges, usable_at(cell.positions[end])))
+            let usable = at(cell.positions[end]).filter(|cell| cell.usable());
+            lower(Some(lent.edges[cell.place]), least(&lent.edges, usable))
         };
         let vanished_below = |cell: &Cell| {
             let others = at(cell.positions[end]).filter(|other| !other.vanished());
             cell.vanished() && lower(Some(lent.edges[cell.place]), least(&lent.edges, others))
         };
+        let of_edge = least(&lent.edges, table.iter().filter(|cell| cell.usable()));
         let below_edge = lower(least(&lent.edges, unusable()), of_edge);
         let seen = [
             (Seen::Lowered, moves),
@@ -716,6 +902,26 @@ impl Case<'_> {
                 self.twin.edges[cell.place] = if past { cost * 2 } else { cost };
             }
         }
+    }
+
+    /// Costs that lie whole numbers of half shares apart, at times one unit more or less, or any number of
+    /// units; around 0 or at one or both of the limits, near to each other or as far apart as can be. None
+    /// past the limit, and no matching kept.
+    fn poke_halves(&mut self, rng: &mut Rng, share: i64) {
+        let off = rng.pick(&[0, 30]);
+        for buffer in 0..3 {
+            let bases = rng.pick(&[&[0][..], &[0], &[0], &[LIMIT], &[-LIMIT], &[-LIMIT, LIMIT]]);
+            let most = rng.pick(&[2, 5, 40, 2 * LIMIT / share]);
+            let step = rng.pick(&[share, share, 2]);
+            for cost in cost_buffer(&mut self.twin, buffer) {
+                let unit = if rng.percent(off) { rng.pick(&[-1, 1]) } else { 0 };
+                let apart = (rng.between(-most, most) * step / 2 + unit).clamp(-LIMIT, LIMIT);
+                let base = rng.pick(bases);
+                *cost = if base == 0 { apart } else { base - base.signum() * apart.abs() };
+            }
+        }
+        self.twin.incumbent.fill(twin::UNSET);
+        self.proved = self.twin.clone();
     }
 
     fn poke_all(&mut self, rng: &mut Rng) {
@@ -846,9 +1052,18 @@ fn share_label(rng: &mut Rng, sheet: &Sheet, incumbent: &mut [u8]) {
     }
 }
 
+/// Other than 1.
+fn some_share(rng: &mut Rng) -> u8 {
+    if rng.percent(70) {
+        rng.pick(&[2, 2, 3, 4, 5, 6, 7, 8, 10, 62, 63, 64])
+    } else {
+        rng.between(2, 64) as u8
+    }
+}
+
 fn legal_record(rng: &mut Rng, sheet: &Sheet) -> [u8; RECORD] {
     let kind = 1 + rng.below(5) as u8;
-    let share = if rng.percent(60) { 1 } else { 1 + rng.below(64) as u8 };
+    let share = if rng.percent(40) { 1 } else { some_share(rng) };
     let nodes = sheet.degrees.len();
     if kind == 5 || nodes == 0 || (kind <= 2 && sheet.ends.is_empty()) {
         return [5, 0, 0, 0, 0];
@@ -869,7 +1084,7 @@ fn legal_record(rng: &mut Rng, sheet: &Sheet) -> [u8; RECORD] {
 
 /// Kind 3 or 4 at a 255, and nothing else wrong.
 fn vanished_record(rng: &mut Rng, place: &Place) -> [u8; RECORD] {
-    let share = if rng.percent(60) { 1 } else { 1 + rng.below(64) as u8 };
+    let share = if rng.percent(40) { 1 } else { some_share(rng) };
     [3 + rng.below(2) as u8, place.node as u8, place.position as u8, 0, share]
 }
 

@@ -129,6 +129,8 @@ impl Parts {
 
 #[derive(Clone, Copy)]
 enum Prices {
+    /// Single units, most of which a share leaves where they are.
+    Units,
     Small,
     Wide,
     Ends,
@@ -136,9 +138,14 @@ enum Prices {
 }
 
 impl Prices {
+    /// Of a random sheet.
+    const SOME: [Self; 7] =
+        [Self::Units, Self::Small, Self::Small, Self::Wide, Self::Wide, Self::Ends, Self::Zero];
+
     fn draw(self, rng: &mut Rng) -> i32 {
         let limit = i64::from(MAX_PRICE);
         (match self {
+            Prices::Units => rng.between(0, 3),
             Prices::Small => rng.between(-9, 9),
             Prices::Wide => rng.between(-limit, limit),
             Prices::Ends => rng.pick(&[-limit, 0, limit]),
@@ -210,7 +217,7 @@ impl Shape {
         rng.shuffle(&mut pairs);
         pairs.truncate(self.edges);
         parts.set_edges(pairs, self.cells);
-        let prices = rng.pick(&[Prices::Small, Prices::Wide, Prices::Wide, Prices::Ends, Prices::Zero]);
+        let prices = rng.pick(&Prices::SOME);
         parts.set_prices(rng, prices);
         parts
     }
@@ -303,7 +310,8 @@ fn star(rng: &mut Rng) -> Parts {
     let spokes = (0..nodes as u8).filter(|&node| node != hub);
     let ends = spokes.map(|node| [node.min(hub), node.max(hub)]).collect();
     parts.set_edges(parts.usable(ends), MAX_EDGE_CELLS);
-    parts.set_prices(rng, Prices::Wide);
+    let prices = rng.pick(&[Prices::Units, Prices::Small, Prices::Wide, Prices::Wide]);
+    parts.set_prices(rng, prices);
     parts
 }
 

@@ -1,4 +1,4 @@
-//! The rules of document 01 with requests 1 and 2 of document 02 in plain Rust: the opponent of the
+//! The rules of document 01 with requests 1, 2 and 3 of document 02 in plain Rust: the opponent of the
 //! proved library.
 //!
 //! Every public function is lent slices, reads the sheet once and makes the document's checks in the
@@ -607,7 +607,6 @@ impl Run<'_> {
             return Err(Refusal::Record);
         }
         let index = usize::from(u16::from_le_bytes([low, high]));
-        let share = i64::from(share);
         if kind <= 2 {
             let Some(&[low_end, high_end]) = self.sheet.ends.get(index) else {
                 return Err(Refusal::Record);
@@ -634,7 +633,7 @@ impl Run<'_> {
         Ok(false)
     }
 
-    fn node_to_edge(&mut self, u: usize, edge: usize, by_row: bool, share: i64) -> Result<(), Refusal> {
+    fn node_to_edge(&mut self, u: usize, edge: usize, by_row: bool, share: u8) -> Result<(), Refusal> {
         let node = &mut self.nodes[self.sheet.cells_of(u)];
         let Table { cells, columns } = self.sheet.table(edge);
         let table = &mut self.edges[cells];
@@ -655,7 +654,7 @@ impl Run<'_> {
         Ok(())
     }
 
-    fn edge_to_node(&mut self, u: usize, edge: usize, by_row: bool, share: i64) -> Result<(), Refusal> {
+    fn edge_to_node(&mut self, u: usize, edge: usize, by_row: bool, share: u8) -> Result<(), Refusal> {
         let node = &mut self.nodes[self.sheet.cells_of(u)];
         let Table { cells, columns } = self.sheet.table(edge);
         let table = &mut self.edges[cells];
@@ -684,7 +683,7 @@ impl Run<'_> {
         Ok(())
     }
 
-    fn node_to_label(&mut self, u: usize, position: usize, share: i64) -> Result<(), Refusal> {
+    fn node_to_label(&mut self, u: usize, position: usize, share: u8) -> Result<(), Refusal> {
         let cells = self.sheet.cells_of(u);
         if cells.len() == 1 {
             return Ok(());
@@ -702,7 +701,7 @@ impl Run<'_> {
         Ok(())
     }
 
-    fn label_to_node(&mut self, u: usize, position: usize, share: i64) -> Result<(), Refusal> {
+    fn label_to_node(&mut self, u: usize, position: usize, share: u8) -> Result<(), Refusal> {
         let sheet = self.sheet;
         let own = usize::from(sheet.node_starts[u]) + position;
         let holders = self.holders.get_or_insert_with(|| Holders::new(sheet.labels));
@@ -758,13 +757,25 @@ impl Run<'_> {
     }
 }
 
-/// Rounded toward zero; most shares of a sweep are 1.
-fn portion(difference: i64, share: i64) -> i64 {
+/// Rounded to the nearest, a half to the even one, for either sign; most shares of a sweep are 1. A branch for
+/// each sign, as nothing but kinds 3 and 4 has differences below 0.
+fn portion(difference: i64, share: u8) -> i64 {
     if share == 1 {
         difference
+    } else if difference < 0 {
+        -nearest(difference.unsigned_abs(), share)
     } else {
-        difference / share
+        nearest(difference.unsigned_abs(), share)
     }
+}
+
+/// Inlined at once, so that the two branches above are not made one again.
+#[inline(always)]
+fn nearest(magnitude: u64, share: u8) -> i64 {
+    let share = u64::from(share);
+    let (quotient, remainder) = (magnitude / share, magnitude % share);
+    // One more if the remainder is over half the share, or half of it and the quotient odd.
+    (quotient + u64::from(2 * remainder + quotient % 2 > share)) as i64
 }
 
 /// Moves every cell by its position's amount; answers whether all are in range after it.

@@ -13,7 +13,7 @@ const OPS: [(u8, &str); 8] = [
     (21, "poke"),
 ];
 /// How many requests are in the rules of both sides, and so in those of a file they can be held to.
-const LEVEL: u32 = 2;
+const LEVEL: u32 = 3;
 const MODULUS: i128 = 4_294_967_291;
 const PRIOR_FILL: u8 = 0xA5;
 

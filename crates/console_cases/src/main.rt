@@ -113,6 +113,20 @@ fn unusable_cases() {
     );
 }
 
+// Document 02, wish 3: shares to the nearest. The bound of the first is 5 with halves toward zero, 7 with halves away from it.
+fn share_cases() {
+    show_files(
+        b"halves of 7 and of 5 below 0",
+        b"halves.sheet",
+        b"halves.records",
+    );
+    show_files(
+        b"a run of another implementation with shares",
+        b"shares-run.sheet",
+        b"shares-run.records",
+    );
+}
+
 // Sheets and lists at the limits of their lengths and past them. The lists are roundings, so that one that was cut would
 // be run.
 fn length_cases() {
@@ -168,6 +182,7 @@ fn main() {
     other_cases();
     vanished_cases();
     unusable_cases();
+    share_cases();
     length_cases();
     extreme_cases();
 }

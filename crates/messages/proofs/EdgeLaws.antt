@@ -16,8 +16,6 @@ use Rattle.integers.specs.Sum.{Within}
 use Rattle.integers.specs.Places.{tabulate, range, every}
 use Rattle.integers.specs.Checks.{below}
 use Rattle.integers.specs.Rows.{part}
-use Rattle.integers.proofs.Parts.{linear, sub, abs}
-use Rattle.integers.proofs.Least.{least-of-le}
 use Rattle.integers.proofs.Share.{share-toward, abs-le}
 use Rattle.integers.proofs.Places.{by-cond, if-true, if-false, length-tabulate, getD-tabulate}
 use Rattle.integers.proofs.Ranges.{shifted, shifted-ext}

@@ -27,7 +27,7 @@ use Rattle.rules.specs.Places.{nodePlaces, labelPlaces}
 use Rattle.rules.specs.Calls.{costLimit}
 use Rattle.messages.specs.Lent.{NodeFits}
 use Rattle.messages.specs.LabelMessage.{labelRival, labelMove, labelMoved, nodeAmount, labelAmount, PlaceAsked}
-use Rattle.messages.proofs.RowLaws.{least-of-within, amount-none, apart-fits}
+use Rattle.messages.proofs.RowLaws.{least-of-within, amount-none}
 
 -- what a cost within the limit gives against such rivals
 amount-fits : (x : ℤ) (rivals : List ℤ) (r : ℕ) → natAbs x ≤ costLimit → Within costLimit rivals → natAbs (amount x rivals r) ≤ 2 ^ 41

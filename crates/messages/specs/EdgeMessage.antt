@@ -5,15 +5,14 @@ use mathlib.Core.List.{List, _++_, map}
 use Prim.Native.Nat.{ℕ, _+_, _*_, _-_, _^_, _/_, _%_, _≤_, _<_}
 use lib.Dec.{eqb, ltb}
 use lib.ListN.{length, getD, drop}
-use lib.IntN.{ℤ, pos, negℤ, natAbs, _-ℤ_}
-use lib.Signed.{_≤ℤ_, ltZ}
+use lib.IntN.{ℤ, pos, negℤ, _-ℤ_}
+use lib.Signed.{ltZ}
 use Rattle.integers.specs.Least.{leastFrom, leastOf}
 use Rattle.integers.specs.Share.{share, excess}
 use Rattle.integers.specs.Places.{tabulate, select, range}
 use Rattle.integers.specs.Rows.{part}
 use Rattle.integers.proofs.Ranges.{shifted}
 use Rattle.instance.specs.Instance.{usable}
-use Rattle.rules.specs.Calls.{costLimit}
 use Rattle.messages.specs.Clash.{Rising}
 
 -- where u stands in the cell j: rows for the lower end, columns for the higher
