@@ -49,8 +49,7 @@ share-of-requires c κs =
     let q = c .before .before .before .before in
     let a = q .args in
     let l = now (a .labels) in
-    let h = q .pre .1 .1 .range in
-    (
+    let h = q .pre .1 .1 .range in (
       q .pre .0 .2,
       rw (same (getD l (a .place) (pos 0)) (c .before .share-of-arg .given), same (c .label-rival .result) (c .label-rival .ok), rival c) (h (a .place), rival-within (instanceOf (now (a .sheet))) l h (a .place)),
     )

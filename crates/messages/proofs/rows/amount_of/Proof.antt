@@ -25,11 +25,10 @@ share-of-requires c κs =
     let q = c .before .before .before in
     let l = now (q .args .row) in
     let k = q .args .k in
-    let h = q .pre .1 .1 in
-    (
+    let h = q .pre .1 .1 in (
       q .pre .1 .0,
       rw (same (getD l k (pos 0)) (c .before .share-of-arg .given), same (c .rival .result) (c .rival .ok), c .rival .ensures)
-      (h k, least-of-within costLimit (without l k) (within-without costLimit k l h)),
+          (h k, least-of-within costLimit (without l k) (within-without costLimit k l h)),
     )
 
 returns-2 : tie.Need-returns-2
