@@ -99,7 +99,7 @@ pub taken-within : (amounts : List ℤ) → Within (2 ^ 41) amounts → Within (
 unfolding tabulate
 taken-within amounts h = within-map (2 ^ 41) (λ k. negℤ (getD amounts k (pos 0))) (range 0 16) (λ k. neg-fits (getD amounts k (pos 0)) (h k))
 
-pub share-within : (x b : ℤ) (r : ℕ) → natAbs x ≤ costLimit → natAbs b ≤ costLimit → natAbs (share (x -ℤ b) r) ≤ 2 ^ 41
+share-within : (x b : ℤ) (r : ℕ) → natAbs x ≤ costLimit → natAbs b ≤ costLimit → natAbs (share (x -ℤ b) r) ≤ 2 ^ 41
 share-within x b r h g = omega (arith, abs-le (share-toward (x -ℤ b) r), apart-within x b h g)
 
 excess-within : (l : List ℤ) (b : ℤ) (r : ℕ) → Within costLimit l → natAbs b ≤ costLimit → natAbs (excess l b r) ≤ 2 ^ 41

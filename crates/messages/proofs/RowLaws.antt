@@ -74,19 +74,19 @@ apart-fits x y h g = omega (linear, sub x y, abs x, abs y)
 pub apart-within : (x y : ℤ) → natAbs x ≤ costLimit → natAbs y ≤ costLimit → natAbs (x -ℤ y) ≤ 2 ^ 41
 apart-within x y h g = omega (linear, sub x y, abs (x -ℤ y), abs x, abs y)
 
+cost-fits : (x : ℤ) → natAbs x ≤ costLimit → SFits w64 x
+cost-fits x h = omega (linear, abs x)
+
 -- the code's difference of two costs, read back, and its size
 module _ (x y : ℤ) (h : natAbs x ≤ costLimit) (g : natAbs y ≤ costLimit) where
   abbrev difference : ℤ
   difference = toZ w64 (ofZ w64 x) -ℤ toZ w64 (ofZ w64 y)
 
-  fits : (z : ℤ) → natAbs z ≤ costLimit → SFits w64 z
-  fits z b = omega (linear, abs z)
-
   pub difference-fits : SFits w64 difference
-  difference-fits = rw (toZ-ofZ (fits x h), toZ-ofZ (fits y g)) (apart-fits x y h g)
+  difference-fits = rw (toZ-ofZ (cost-fits x h), toZ-ofZ (cost-fits y g)) (apart-fits x y h g)
 
   pub difference-is : toZ w64 (ofZ w64 difference) ≡ x -ℤ y
-  difference-is = toZ-ofZ difference-fits ∙ ap₂ _-ℤ_ (toZ-ofZ (fits x h)) (toZ-ofZ (fits y g))
+  difference-is = toZ-ofZ difference-fits ∙ ap₂ _-ℤ_ (toZ-ofZ (cost-fits x h)) (toZ-ofZ (cost-fits y g))
 
   pub size-few : natAbs (toZ w64 (ofZ w64 difference)) ≤ 2 ^ 41
   size-few = rw difference-is (apart-within x y h g)

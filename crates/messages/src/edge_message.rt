@@ -14,10 +14,9 @@ ghost use mathlib.Core.Bool.{false, cond};
 ghost use Prim.Native.Nat.{ℕ, _^_, _≤_, _<_};
 ghost use lib.Dec.{ltb};
 ghost use lib.ListN.{length, getD, set, replicate};
-ghost use lib.IntN.{pos, negℤ, natAbs, _+ℤ_, _-ℤ_};
+ghost use lib.IntN.{pos, natAbs, _+ℤ_};
 ghost use lib.Signed.{_<ℤ_};
 ghost use Rattle.integers.specs.Least.{leastFrom, without};
-ghost use Rattle.integers.specs.Share.{share};
 ghost use Rattle.integers.specs.Sum.{Within};
 ghost use Rattle.integers.specs.Places.{every};
 ghost use Rattle.integers.specs.Checks.{within};
@@ -27,23 +26,14 @@ ghost use mir.Val.{SFits};
 ghost use Rattle.rules.specs.Calls.{costLimit};
 ghost use Rattle.messages.specs.EdgeMessage.{nodeAmounts, edgeAmounts, takenOf, movedCells, movedLine, Shape, Ends, over, lineAt, unbounded, leastAt, turnedLeast};
 
-// A share of how far a cost is above the least, turned round.
-fn turned(cost: i64, low: i64, r: u8) -> i64
-    requires { ⌜ 1 ≤ r ⌝ }
-    requires { ⌜ (natAbs cost ≤ costLimit) × (natAbs low ≤ costLimit) ⌝ }
-    ensures { λ p. ⌜ p ≡ negℤ (share (cost -ℤ low) r) ⌝ }
-{
-    -share_of(cost, low, r)
-}
-
-// The same of the least of a position, and 0 if that has no usable cell.
+// What the least of a position gives down to the least of all, turned round, and 0 if it has no usable cell.
 fn turned_least(cost: i64, low: i64, r: u8) -> i64
     requires { ⌜ 1 ≤ r ⌝ }
     requires { ⌜ (cost <ℤ unbounded → natAbs cost ≤ costLimit) × (natAbs low ≤ costLimit) ⌝ }
     ensures { λ p. ⌜ p ≡ turnedLeast cost low r ⌝ }
 {
     if cost < UNBOUNDED {
-        turned(cost, low, r)
+        share_of(low, cost, r)
     } else {
         0
     }

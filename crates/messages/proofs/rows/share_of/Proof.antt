@@ -1,13 +1,13 @@
 -- `share_of` meets its contract: one 1st is the distance itself, and else a distance of either sign goes by its size.
 use Prim.Native.Nat.{ℕ, _≤_, _^_}
-use mathlib.Core.Path.{_≡_, sym, ap, _∙_}
+use mathlib.Core.Path.{sym, ap, _∙_}
 use native.Mathlib.Omega.{arith}
-use lib.IntN.{ℤ, pos, negℤ, natAbs, _-ℤ_}
+use lib.IntN.{ℤ, pos, natAbs, _-ℤ_}
 use lib.Signed.{_≤ℤ_}
 use mir.Syntax.{w64}
 use Rattle.integers.specs.Share.{share}
-use Rattle.integers.proofs.Parts.{linear, sub, neg}
-use Rattle.integers.proofs.Share.{share-neg, share-one}
+use Rattle.integers.proofs.Parts.{linear}
+use Rattle.integers.proofs.Share.{share-back, share-one}
 use Rattle.integers.proofs.Bits.{answer, read, low}
 use Rattle.rules.specs.Calls.{costLimit}
 use Rattle.messages.proofs.RowLaws.{difference-fits, difference-is, size-few, size-is, part-few, part-is, from-zero, zero-fits}
@@ -54,11 +54,9 @@ returns-2 : tie.Need-returns-2
 returns-2 c =
     let p = c .before in
     let s = q (p .before) in
-    let d = y s -ℤ x s in
-    let e : negℤ d ≡ x s -ℤ y s = omega (linear, neg d, sub (y s) (x s), sub (x s) (y s)) in
     answer (c .minus .ok) (c .minus .ensures)
     ∙ ap (λ (z : ℤ). pos 0 -ℤ z) (part-is (y s) (x s) (hy s) (hx s) (r s) (p .nearest-to .result) (p .nearest-to .ensures) (order (p .before)))
-    ∙ from-zero (share d (r s)) ∙ sym (share-neg d (r s)) ∙ ap (λ (z : ℤ). share z (r s)) e
+    ∙ from-zero (share (y s -ℤ x s) (r s)) ∙ sym (share-back (y s) (x s) (r s))
 
 -- not below
 above : (c : tie.Else2) → (let q = c .before .before in y q ≤ℤ x q)
