@@ -1,0 +1,7 @@
+-- The laws of the search and of the loops around it.
+pub mod Shifting
+pub mod Searching
+pub mod Queues
+pub mod Placings
+pub mod Trying
+pub mod Visiting

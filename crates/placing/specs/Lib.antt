@@ -1,0 +1,2 @@
+-- Tables over places, and what a search leaves.
+pub mod Tables
