@@ -1,2 +1,4 @@
--- Tables over places, and what a search leaves.
+-- Placing: the call's promise, the tables over places, and what a search leaves.
+pub mod Placing
 pub mod Tables
+pub mod Laid
