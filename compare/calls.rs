@@ -1,4 +1,4 @@
-//! The six calls as both sides offer them: flat numbers in slices, as the exports have them.
+//! The seven calls as both sides offer them: flat numbers in slices, as the exports have them.
 
 use crate::twin::{self, Report};
 
@@ -45,6 +45,7 @@ pub trait Calls {
     fn report(sheet: &[u8], lent: &Buffers, values: &mut [i64]) -> u8;
     fn sweep(sheet: &[u8], direction: u8, out: &mut [u8]) -> u8;
     fn edge(sheet: &[u8], edge: usize, span: &mut [u64]) -> u8;
+    fn place(sheet: &[u8], out: &mut [u8]) -> u8;
 }
 
 pub struct Twin;
@@ -106,6 +107,10 @@ impl Calls for Twin {
         let range = answer.clone().unwrap_or(0..0);
         (*offset, *length) = (range.start as u64, range.len() as u64);
         number(answer)
+    }
+
+    fn place(sheet: &[u8], out: &mut [u8]) -> u8 {
+        number(twin::place(sheet, out))
     }
 }
 

@@ -69,6 +69,7 @@ mod linked {
             span: *mut u64,
             span_len: usize,
         ) -> u8;
+        fn cirbaldu_place(sheet: *const u8, sheet_len: usize, out: *mut u8, out_len: usize) -> u8;
     }
 
     pub struct Proved;
@@ -146,6 +147,10 @@ mod linked {
         fn edge(sheet: &[u8], edge: usize, span: &mut [u64]) -> u8 {
             unsafe { cirbaldu_edge(sheet.as_ptr(), sheet.len(), edge, span.as_mut_ptr(), span.len()) }
         }
+
+        fn place(sheet: &[u8], out: &mut [u8]) -> u8 {
+            unsafe { cirbaldu_place(sheet.as_ptr(), sheet.len(), out.as_mut_ptr(), out.len()) }
+        }
     }
 }
 
@@ -180,6 +185,10 @@ mod stand_in {
 
         fn edge(sheet: &[u8], edge: usize, span: &mut [u64]) -> u8 {
             Twin::edge(sheet, edge, span)
+        }
+
+        fn place(sheet: &[u8], out: &mut [u8]) -> u8 {
+            Twin::place(sheet, out)
         }
     }
 }

@@ -2,6 +2,7 @@
 
 mod bench;
 mod calls;
+mod checker;
 mod exports;
 mod random;
 mod sheets;

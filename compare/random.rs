@@ -3,14 +3,15 @@
 use std::cmp::Ordering;
 
 use crate::calls::{Buffers, Calls, Twin, COUNTS, READING, SPAN, VALUES};
+use crate::checker;
 use crate::exports::Proved;
 use crate::sheets::{self, Rng};
 use crate::twin::{self, Refusal, Sheet, LIMIT, RECORD, TRAILER, VANISHED};
 
-const CALLS: [&str; 6] = ["read", "open", "run", "report", "sweep", "edge"];
-const REFUSALS: usize = 16;
+const CALLS: [&str; 7] = ["read", "open", "run", "report", "sweep", "edge", "place"];
+const REFUSALS: usize = 17;
 
-/// What shows the rules of the 255 and of the unusable cells, by place in SEEN.
+/// What shows the rules of the 255, of the unusable cells and of placing, by place in SEEN.
 #[derive(Clone, Copy)]
 enum Seen {
     Sheet,
@@ -60,9 +61,42 @@ enum Seen {
     LeastVanished,
     RaisedOver,
     LoweredOver,
+    BlockedPlace,
+    PlaceUnlent,
+    PlacedNone,
+    PlacedOnFirst,
+    PlacedElsewhere,
+    PlacedByChain,
+    PlacedVanished,
+    PlacedSaved,
+    PlacedTried,
+    PlacedOverKept,
+    NamedTwo,
+    NamedThree,
+    NamedMore,
+    NamedMany,
+    NamedAll,
+    NamedBesideVanished,
+    NamedOneOfSeveral,
+    NamedTried,
+    NamedOverKept,
+    NamedApart,
 }
 
-const SEEN: [&str; Seen::LoweredOver as usize + 1] = [
+/// What has to come up: without them a comparison says nothing of placing.
+const NEEDED: [Seen; 9] = [
+    Seen::PlaceUnlent,
+    Seen::PlacedElsewhere,
+    Seen::PlacedByChain,
+    Seen::PlacedSaved,
+    Seen::PlacedTried,
+    Seen::NamedTwo,
+    Seen::NamedThree,
+    Seen::NamedMore,
+    Seen::NamedTried,
+];
+
+const SEEN: [&str; Seen::NamedApart as usize + 1] = [
     "readable sheets with a 255",
     "of these with one at every node",
     "of these with one alone at some node",
@@ -110,6 +144,26 @@ const SEEN: [&str; Seen::LoweredOver as usize + 1] = [
     "records looked at, of kind 2, with the cell of 255 and 255 below the others of its position",
     "runs refused 13 at kind 1 for unusable cells alone",
     "runs refused 13 at kind 2 for unusable cells alone",
+    "places refused 15 with bytes of another length",
+    "places refused 8 that would be refused 16",
+    "placings of no node",
+    "placings with every node at its first label",
+    "placings with a node elsewhere",
+    "of these where taking the first free label in turn gets stuck",
+    "placings with a node at 255",
+    "placings on a sheet that has none without its 255s",
+    "placings held against all labellings",
+    "placings written over the kept matching",
+    "sets named, of two nodes",
+    "sets named, of three",
+    "sets named, of four to sixteen",
+    "sets named, of more",
+    "sets named, of all nodes there are",
+    "sets named where another node has a 255",
+    "sets named where the other nodes cannot be placed either",
+    "sets named after a look at all labellings",
+    "sets named, written over the kept matching",
+    "sets named by one side where the other named another",
 ];
 
 /// What shows how amounts are rounded, by place in ROUNDED.
@@ -390,7 +444,9 @@ pub fn compare(seed: u64, count: u64) -> bool {
         }
     }
     print(seed, count, &tally);
-    true
+    let missing = || NEEDED.into_iter().filter(|&what| tally.seen[what as usize] == 0);
+    missing().for_each(|what| println!("none came up: {}", SEEN[what as usize]));
+    missing().next().is_none()
 }
 
 fn print(seed: u64, count: u64, tally: &Tally) {
@@ -424,6 +480,7 @@ fn compare_case(rng: &mut Rng, tally: &mut Tally) -> Result<(), Difference> {
     case.edge(rng)?;
     case.poke_all(rng);
     case.open()?;
+    case.place(rng)?;
     for _ in 0..10 {
         case.step(rng)?;
     }
@@ -496,7 +553,7 @@ fn places(rng: &mut Rng, right: usize) -> usize {
 
 impl Case<'_> {
     fn step(&mut self, rng: &mut Rng) -> Result<(), Difference> {
-        match rng.below(16) {
+        match rng.below(17) {
             0 => self.read(rng),
             1 => self.edge(rng),
             2 => self.open(),
@@ -508,6 +565,7 @@ impl Case<'_> {
             9..=10 => self.report(rng),
             11 => self.with_other_length(rng),
             12..=13 => self.run_halves(rng),
+            14 => self.place(rng),
             _ => {
                 self.poke(rng);
                 self.report(rng)?;
@@ -620,6 +678,57 @@ impl Case<'_> {
             assert_eq!(number, twin::edge_refusal(self.sheet, edge).map_or(0, |refusal| refusal as u8));
         }
         self.judge(5, u64::from(number), (left_number, left), (number, right))
+    }
+
+    /// On bytes of any content, now and then of another number than nodes, or on those of the kept matching.
+    fn place(&mut self, rng: &mut Rng) -> Result<(), Difference> {
+        let over_kept = rng.percent(20);
+        let before = if over_kept { self.twin.incumbent.clone() } else { self.some_bytes(rng) };
+        let (mut left, mut right) = (before.clone(), before.clone());
+        let left_number = Proved::place(self.sheet, &mut left);
+        let number = Twin::place(self.sheet, &mut right);
+        self.see_blocked(Seen::BlockedPlace, number, before.len() != self.layout.labels.len());
+        let named = number == Refusal::NoMatching as u8;
+        if !(self.placed_right(number, &before, &left) && self.placed_right(number, &before, &right)) {
+            return Err(Difference("place, by what is asked of it,"));
+        }
+        match number {
+            0 => self.see_placed(&right, over_kept),
+            _ if named => self.see_named(&right, over_kept, left != right),
+            _ => self.see_unlent(number),
+        }
+        // Any such set may be named.
+        if named {
+            left.clone_from(&right);
+        }
+        if over_kept {
+            self.proved.incumbent.clone_from(&left);
+            self.twin.incumbent.clone_from(&right);
+        }
+        self.judge(6, u64::from(number), (left_number, left), (number, right))
+    }
+
+    /// What is lent to a placing.
+    fn some_bytes(&self, rng: &mut Rng) -> Vec<u8> {
+        let nodes = self.layout.labels.len();
+        let others = [0, 1, nodes + 1, nodes.saturating_sub(1), 2 * nodes, twin::MAX_NODES, 300];
+        let length = if rng.percent(88) { nodes } else { rng.pick(&others) };
+        let same = rng.pick(&[None, Some(0), Some(1), Some(255)]);
+        (0..length).map(|_| same.unwrap_or(rng.byte())).collect()
+    }
+
+    /// Whether a side's bytes are what its answer says they are.
+    fn placed_right(&self, number: u8, before: &[u8], after: &[u8]) -> bool {
+        match number {
+            0 => checker::is_matching(&self.nodes(), after),
+            16 => checker::is_obstruction(self.sheet, after),
+            _ => before == after,
+        }
+    }
+
+    /// Each node's labels.
+    fn nodes(&self) -> Vec<&[u8]> {
+        self.layout.labels.iter().map(Vec::as_slice).collect()
     }
 
     /// Opens, runs and reports with one buffer too long or too short, then puts it right.
@@ -823,6 +932,27 @@ impl Case<'_> {
             (Seen::LeastOfEdge, below_edge),
             (Seen::BareNamed, has_bare_position(table, end)),
             (Seen::LeastVanished, table.iter().any(vanished_below)),
+        ];
+        for (what, occurs) in seen {
+            self.tally.see(what, occurs);
+        }
+    }
+
+    /// A placing.
+    fn see_placed(&mut self, positions: &[u8], over_kept: bool) {
+        let first = positions.iter().all(|&position| position == 0);
+        let none = positions.is_empty();
+        let vanished = self.vanished.iter().any(|place| usize::from(positions[place.node]) == place.position);
+        let others: Vec<&[u8]> = self.nodes().into_iter().map(twin::without_vanished).collect();
+        let in_turn = take_in_turn(&self.nodes());
+        let seen = [
+            (Seen::PlacedNone, none),
+            (Seen::PlacedOnFirst, first && !none),
+            (Seen::PlacedElsewhere, !first),
+            (Seen::PlacedByChain, in_turn.is_none()),
+            (Seen::PlacedVanished, vanished),
+            (Seen::PlacedSaved, vanished && !checker::can_place(&others)),
+            (Seen::PlacedOverKept, over_kept && !none),
         ];
         for (what, occurs) in seen {
             self.tally.see(what, occurs);

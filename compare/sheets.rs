@@ -225,7 +225,7 @@ impl Shape {
 
 /// A valid sheet of some shape.
 pub fn valid(rng: &mut Rng) -> Parts {
-    match rng.below(15) {
+    match rng.below(19) {
         0 => Shape { nodes: 0, label_limit: label_limit(rng, 0), ..FULL }.draw_sharing(rng),
         1..=4 => {
             let label_limit = 1 + rng.below(9);
@@ -251,7 +251,8 @@ pub fn valid(rng: &mut Rng) -> Parts {
         }
         .draw_sharing(rng),
         12 => Shape { most_degree: 3, ..FULL }.draw_sharing(rng),
-        _ => few_labels(rng),
+        13..=14 => few_labels(rng),
+        _ => crowded(rng),
     }
 }
 
@@ -265,6 +266,75 @@ fn few_labels(rng: &mut Rng) -> Parts {
         ..FULL
     }
     .draw_sharing(rng)
+}
+
+/// Nodes in groups, each with labels of its own: one fewer than nodes, as many, or one more. Some nodes of a
+/// later group have labels of earlier ones too. In some groups a node, or several, has a 255.
+fn crowded(rng: &mut Rng) -> Parts {
+    const FEW: usize = 7;
+    let kinds: [(usize, &[usize]); 5] = [
+        (FEW, &[2, 3]),
+        (FEW, &[2, 3, 4]),
+        (MAX_NODES, &[2, 3, 5, 9]),
+        (MAX_NODES, &[4, 17, 24]),
+        (MAX_NODES, &[40, 60]),
+    ];
+    let (room, sizes) = rng.pick(&kinds);
+    let mut universe: Vec<u8> = (0..rng.pick(&[room, MAX_LABELS]) as u8).collect();
+    rng.shuffle(&mut universe);
+    let mut nodes = Vec::new();
+    let mut used = 0;
+    for _ in 0..1 + rng.below(5) {
+        let size = rng.pick(sizes);
+        let labels = size + rng.pick(&[0, 0, 1, 2]) - 1;
+        if nodes.len() + size > room || used + labels > universe.len() {
+            break;
+        }
+        let (earlier, rest) = universe.split_at(used);
+        nodes.extend(group(rng, size, earlier, &rest[..labels]));
+        used += labels;
+    }
+    match rng.below(3) {
+        0 => {}
+        1 => nodes.reverse(),
+        _ => rng.shuffle(&mut nodes),
+    }
+    let mut parts = Parts { label_limit: universe.len(), ..Parts::default() };
+    let count = nodes.len();
+    nodes.into_iter().for_each(|labels| parts.add_node(labels));
+    let mut pairs = parts.usable(all_pairs(count));
+    rng.shuffle(&mut pairs);
+    pairs.truncate(rng.below(12));
+    parts.set_edges(pairs, MAX_EDGE_CELLS);
+    parts.set_prices(rng, Prices::Small);
+    parts
+}
+
+/// A group of a crowded sheet, which has these labels: all of them at every node, two at a node so that they
+/// form a chain, or some of them, among which is one of the node's own as long as there are enough.
+fn group(rng: &mut Rng, size: usize, earlier: &[u8], labels: &[u8]) -> Vec<Vec<u8>> {
+    let form = rng.below(3);
+    let others = rng.pick(&[1, 2, 4, 10]);
+    let reaching = rng.pick(&[0, 0, 50, 100]);
+    let vanishing = rng.pick(&[0, 0, 0, 10, 50]);
+    let mut nodes = Vec::new();
+    for node in 0..size {
+        let mut own = match form {
+            0 => labels.to_vec(),
+            1 => labels[node.saturating_sub(1)..labels.len().min(node + 1)].to_vec(),
+            _ => labels.get(node).into_iter().copied().chain((0..others).map(|_| rng.pick(labels))).collect(),
+        };
+        if rng.percent(reaching) {
+            own.extend((0..others).filter_map(|_| earlier.get(rng.below(earlier.len()))));
+        }
+        rng.shuffle(&mut own);
+        own.truncate(MAX_DEGREE - 1);
+        own.extend(rng.percent(vanishing).then_some(VANISHED));
+        own.sort_unstable();
+        own.dedup();
+        nodes.push(own);
+    }
+    nodes
 }
 
 /// A sheet that nothing is wrong with but an edge, or several, of one cell with the same label twice.

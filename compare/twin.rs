@@ -1,5 +1,5 @@
-//! The rules of document 01 with requests 1, 2 and 3 of document 02 in plain Rust: the opponent of the
-//! proved library.
+//! The rules of document 01 with requests 1 to 4 of document 02 in plain Rust: the opponent of the proved
+//! library.
 //!
 //! Every public function is lent slices, reads the sheet once and makes the document's checks in the
 //! document's order.
@@ -48,6 +48,7 @@ pub enum Refusal {
     Overflow,
     Bound,
     Unusable,
+    NoMatching,
 }
 
 /// A readable sheet: its sections as parts of the bytes lent, and where each node and edge begins.
@@ -983,4 +984,280 @@ fn write_labels(sheet: &Sheet, out: &mut [[u8; RECORD]]) -> usize {
         }
     }
     at
+}
+
+/// Places all nodes: writes the matching that is the smallest when positions are compared from node 0 on.
+/// Where there is none it is refused, and this one refusal writes: 1 for the members and 0 for the rest of a
+/// set of nodes without a 255 that together have fewer labels than members, and that can be placed without
+/// any one of them.
+pub fn place(bytes: &[u8], out: &mut [u8]) -> Result<(), Refusal> {
+    let sheet = read(bytes)?;
+    if out.len() != sheet.degrees.len() {
+        return Err(Refusal::Lent);
+    }
+    let mut choices = Choices::NONE;
+    if let Some(stuck) = choices.take_in_turn(&sheet) {
+        Placing::new(&mut choices, stuck).place_from(stuck, out)?;
+    }
+    choices.write(out);
+    Ok(())
+}
+
+/// A label's bit; a 255 has none. A table, since much of a placing's time goes into these words.
+static BITS: [u64; 256] = {
+    let mut bits = [0; 256];
+    let mut label = 0;
+    while label < MAX_LABELS {
+        bits[label] = 1 << label;
+        label += 1;
+    }
+    bits
+};
+
+fn lowest(labels: u64) -> u64 {
+    labels & labels.wrapping_neg()
+}
+
+/// The number of the lowest of the labels.
+fn number(labels: u64) -> usize {
+    labels.trailing_zeros() as usize % MAX_LABELS
+}
+
+/// The labels that each node has and the one that it takes, as bits; a node without one takes its 255.
+struct Choices {
+    sets: [u64; MAX_NODES],
+    taken: [u64; MAX_NODES],
+    /// A bit for each node with a 255.
+    vanishing: u64,
+}
+
+impl Choices {
+    const NONE: Self = Choices { sets: [0; MAX_NODES], taken: [0; MAX_NODES], vanishing: 0 };
+
+    /// Lets each node take the lowest of its labels that is free, else its 255. That is the smallest
+    /// matching, unless a node has neither: answers the first such node.
+    fn take_in_turn(&mut self, sheet: &Sheet) -> Option<usize> {
+        let mut labels = sheet.labels;
+        let mut free = u64::MAX;
+        let mut placed = 0_u64;
+        let mut vanishing = 0_u64;
+        for (node, &degree) in sheet.degrees.iter().enumerate().take(MAX_NODES) {
+            let (own, rest) = labels.split_at(usize::from(degree));
+            let set = own.iter().fold(0, |set, &label| set | BITS[usize::from(label)]);
+            let label = lowest(set & free);
+            self.sets[node] = set;
+            self.taken[node] = label;
+            placed |= u64::from(label != 0) << node;
+            vanishing |= u64::from(own.last() == Some(&VANISHED)) << node;
+            free ^= label;
+            labels = rest;
+        }
+        self.vanishing = vanishing;
+        let stuck = (placed | vanishing).trailing_ones() as usize;
+        (stuck < sheet.degrees.len()).then_some(stuck)
+    }
+
+    /// Labels rise within a node: a label's position is the number of those below it, a 255's that of all.
+    fn write(&self, out: &mut [u8]) {
+        for (position, (&set, &label)) in zip(out, zip(&self.sets, &self.taken)) {
+            *position = (set & label.wrapping_sub(1)).count_ones() as u8;
+        }
+    }
+}
+
+/// A placing in which a node gets a label by a chain: each node of the chain takes the label of the next one,
+/// and the last a label that is free, or its 255.
+struct Placing<'a> {
+    choices: &'a mut Choices,
+    /// The labels that no node holds.
+    free: u64,
+    /// The labels whose holders may take a 255 instead.
+    yielding: u64,
+    holders: [u8; MAX_LABELS],
+    /// The labels that each label's holder has.
+    reach: [u64; MAX_LABELS],
+    /// The labels that a search has looked at, in turn, and the new ones that each one's holder led to.
+    looked_at: [u8; MAX_LABELS],
+    found: [u64; MAX_LABELS],
+}
+
+impl<'a> Placing<'a> {
+    /// With what the nodes before this one have taken.
+    fn new(choices: &'a mut Choices, end: usize) -> Self {
+        let mut placing = Placing {
+            choices,
+            free: u64::MAX,
+            yielding: 0,
+            holders: [0; MAX_LABELS],
+            reach: [0; MAX_LABELS],
+            looked_at: [0; MAX_LABELS],
+            found: [0; MAX_LABELS],
+        };
+        for node in 0..end.min(MAX_NODES) {
+            placing.give(node, placing.choices.taken[node]);
+        }
+        placing
+    }
+
+    /// Places the nodes from this one on, and then makes the matching the smallest. Not inlined, so that a
+    /// placing without chains stays short.
+    #[inline(never)]
+    fn place_from(&mut self, first: usize, out: &mut [u8]) -> Result<(), Refusal> {
+        for node in first..out.len().min(MAX_NODES) {
+            let set = self.choices.sets[node];
+            let label = lowest(set & self.free);
+            if label != 0 || self.vanishes(node) != 0 {
+                self.give(node, label);
+            } else if let Err(seen) = self.chain(node, set, 0) {
+                self.name(node, seen, out);
+                return Err(Refusal::NoMatching);
+            }
+        }
+        self.lower(out.len());
+        Ok(())
+    }
+
+    /// 1 if the node has a 255.
+    fn vanishes(&self, node: usize) -> u64 {
+        self.choices.vanishing >> node & 1
+    }
+
+    fn holder(&self, labels: u64) -> usize {
+        usize::from(self.holders[number(labels)]) % MAX_NODES
+    }
+
+    /// A label, or no bit for the node's 255.
+    fn give(&mut self, node: usize, label: u64) {
+        self.choices.taken[node] = label;
+        if label != 0 {
+            self.holders[number(label)] = node as u8;
+            self.reach[number(label)] = self.choices.sets[node];
+            self.free &= !label;
+            self.yielding = self.yielding & !label | self.vanishes(node) << number(label);
+        }
+    }
+
+    /// The node for which there is no chain, and the holders of the labels seen: these are all the labels
+    /// that they have. A chain leads from the node to each holder, so that it can be placed in its stead.
+    fn name(&self, node: usize, mut seen: u64, out: &mut [u8]) {
+        out.fill(0);
+        out[node] = 1;
+        while seen != 0 {
+            out[self.holder(seen)] = 1;
+            seen &= seen - 1;
+        }
+    }
+
+    /// Lets each node from node 0 on take the lowest label that leaves the later ones placed. What the
+    /// earlier ones have taken is no longer open.
+    fn lower(&mut self, nodes: usize) {
+        let mut open = u64::MAX;
+        let mut regions = Regions::ONE;
+        for node in 0..nodes.min(MAX_NODES) {
+            let own = self.choices.taken[node];
+            let region = regions.of(own);
+            let within = open & regions.labels[region];
+            let mut lower = self.choices.sets[node] & within & own.wrapping_sub(1);
+            if lower != 0 {
+                self.free |= own;
+                self.yielding &= !own;
+                let mut seen = !within;
+                while let Err(grown) = self.chain(node, lowest(lower), seen) {
+                    regions.split(region, grown & !seen);
+                    seen = grown;
+                    lower &= !seen;
+                    if lower == 0 {
+                        self.free &= !own;
+                        break;
+                    }
+                }
+            }
+            open &= !self.choices.taken[node];
+            self.yielding &= open;
+        }
+    }
+
+    /// Gives the node one of these labels by a chain through labels not seen yet, a shortest one. Answers all
+    /// that has been seen if there is none.
+    fn chain(&mut self, node: usize, start: u64, mut seen: u64) -> Result<(), u64> {
+        let goal = self.free | self.yielding;
+        if start & goal != 0 {
+            self.shift(node, 0, lowest(start & goal));
+            return Ok(());
+        }
+        seen |= start;
+        let mut count = 0;
+        let mut layer = start;
+        while layer != 0 {
+            let mut next = 0;
+            while layer != 0 {
+                let label = number(layer);
+                let new = self.reach[label] & !seen;
+                self.looked_at[count % MAX_LABELS] = label as u8;
+                self.found[count % MAX_LABELS] = new;
+                count += 1;
+                if new & goal != 0 {
+                    self.shift(node, count, lowest(new & goal));
+                    return Ok(());
+                }
+                seen |= new;
+                next |= new;
+                layer &= layer - 1;
+            }
+            layer = next;
+        }
+        Err(seen)
+    }
+
+    /// Moves the chain that ends at this label, from there back to the node: a label was found by one that
+    /// was looked at before it.
+    fn shift(&mut self, node: usize, count: usize, mut label: u64) {
+        if self.yielding & label != 0 {
+            self.choices.taken[self.holder(label)] = 0;
+        }
+        for place in (0..count.min(MAX_LABELS)).rev() {
+            if self.found[place] & label != 0 {
+                let from = 1 << (usize::from(self.looked_at[place]) % MAX_LABELS);
+                self.give(self.holder(from), label);
+                label = from;
+            }
+        }
+        self.give(node, label);
+    }
+}
+
+/// The labels in parts that no chain crosses. Where none leads on from some labels, their holders have to
+/// share them: what they saw is split off for good. Region 0 has the labels that are free or yielding.
+struct Regions {
+    /// There is one more than labels, as region 0 may become empty.
+    labels: [u64; MAX_LABELS + 1],
+    by_label: [u8; MAX_LABELS],
+    count: usize,
+}
+
+impl Regions {
+    const ONE: Self = {
+        let mut labels = [0; MAX_LABELS + 1];
+        labels[0] = u64::MAX;
+        Regions { labels, by_label: [0; MAX_LABELS], count: 1 }
+    };
+
+    /// Of a node with this label, or with a 255.
+    fn of(&self, label: u64) -> usize {
+        if label == 0 {
+            0
+        } else {
+            usize::from(self.by_label[number(label)])
+        }
+    }
+
+    fn split(&mut self, region: usize, mut part: u64) {
+        self.labels[region] &= !part;
+        self.labels[self.count] = part;
+        while part != 0 {
+            self.by_label[number(part)] = self.count as u8;
+            part &= part - 1;
+        }
+        self.count += 1;
+    }
 }

@@ -1,19 +1,23 @@
 //! Replays a .vec file (its README gives the format) through one side and counts what differs.
 
 use crate::calls::{Buffers, Calls, COUNTS, READING, SPAN, VALUES};
+use crate::checker;
+use crate::twin::Refusal;
 
-const OPS: [(u8, &str); 8] = [
+const PLACE: u8 = 7;
+const OPS: [(u8, &str); 9] = [
     (1, "open"),
     (2, "run"),
     (3, "report"),
     (4, "sweep"),
     (5, "edge"),
     (6, "read"),
+    (PLACE, "place"),
     (20, "resize"),
     (21, "poke"),
 ];
 /// How many requests are in the rules of both sides, and so in those of a file they can be held to.
-const LEVEL: u32 = 3;
+const LEVEL: u32 = 4;
 const MODULUS: i128 = 4_294_967_291;
 const PRIOR_FILL: u8 = 0xA5;
 
@@ -134,7 +138,12 @@ fn replay_case<S: Calls>(case: u32, cursor: &mut Cursor, tally: &mut Tally) -> O
         let op = cursor.u8()?;
         let place = OPS.iter().position(|&(number, _)| number == op)?;
         let (numbers, output) = replay_call::<S>(op, cursor, sheet, &mut state)?;
-        let answer = Answer { numbers, output: Hash::of_bytes(&output), state: Hash::of_state(&state) };
+        let output = if op == PLACE && numbers == [Refusal::NoMatching as i64] {
+            of_obstruction(sheet, &output)
+        } else {
+            Hash::of_bytes(&output)
+        };
+        let answer = Answer { numbers, output, state: Hash::of_state(&state) };
         let stored = stored_answer(cursor)?;
         tally.calls[place] += 1;
         if answer != stored {
@@ -143,6 +152,15 @@ fn replay_case<S: Calls>(case: u32, cursor: &mut Cursor, tally: &mut Tally) -> O
         }
     }
     Some(())
+}
+
+/// What a file has for every set of nodes that may be named, and another number for one that may not.
+fn of_obstruction(sheet: &[u8], bytes: &[u8]) -> u64 {
+    if checker::is_obstruction(sheet, bytes) {
+        0
+    } else {
+        u64::MAX
+    }
 }
 
 fn fill_prior(state: &mut Buffers) {
@@ -198,6 +216,11 @@ fn replay_call<S: Calls>(
         }
         5 => Some(replay_edge::<S>(sheet, cursor.size()?)),
         6 => Some(replay_read::<S>(sheet)),
+        PLACE => {
+            let mut out = vec![PRIOR_FILL; cursor.size()?];
+            let refusal = S::place(sheet, &mut out);
+            Some((vec![i64::from(refusal)], out))
+        }
         20 => replay_resize(cursor, state).map(|()| Default::default()),
         _ => replay_poke(cursor, state).map(|()| Default::default()),
     }

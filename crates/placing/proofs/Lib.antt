@@ -5,3 +5,4 @@ pub mod Queues
 pub mod Placings
 pub mod Trying
 pub mod Visiting
+pub mod Laying

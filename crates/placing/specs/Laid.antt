@@ -6,7 +6,7 @@ use Prim.Native.Nat.{ℕ, _+_, _≤_, _<_}
 use lib.ListN.{length}
 use Rattle.instance.specs.Instance.{Instance, exclusive, first}
 use Rattle.assignment.specs.Rows.{In}
-use Rattle.placing.specs.Tables.{entry, flag, Tables, Sorted}
+use Rattle.placing.specs.Tables.{entry, flag, Tables}
 
 unfoldable pub slotOf : ℕ → ℕ → ℕ
 slotOf label u = cond (exclusive label) label (64 + u)
@@ -17,7 +17,6 @@ pub record Filled (I : Instance) (past : ℕ) (slots owners : List ℕ) (allowed
       → (entry slots (first I u + k) ≡ slotOf (I .label (first I u + k)) u) × (entry owners (first I u + k) ≡ u) × In (flag allowed) (first I u + k)
   pub shut : (i : ℕ) → past ≤ i → flag allowed i ≡ false
   pub tables : Tables slots owners
-  pub sorted : Sorted owners
   -- those behind have the last owner, so that the owners rise
   pub behind : (i : ℕ) → past ≤ i → i < 1024 → entry owners i ≡ 63
   pub size-slots : length slots ≡ 1024
