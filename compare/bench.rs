@@ -4,9 +4,10 @@ use std::hint::black_box;
 use std::time::Instant;
 
 use crate::calls::{Buffers, Calls, Twin, COUNTS, READING, SPAN, VALUES};
+use crate::checker;
 use crate::exports::Proved;
 use crate::sheets::{self, Parts};
-use crate::twin::{MAX_LENGTH, RECORD};
+use crate::twin::{Refusal, MAX_LENGTH, MAX_NODES, RECORD};
 
 const SEED: u64 = 2022;
 const SWEEPS: usize = 20;
@@ -22,29 +23,52 @@ struct Input {
 }
 
 /// Nanoseconds of one call, by item.
-type Sample = [f64; ITEMS.len()];
-const ITEMS: [&str; 6] = ["read", "open", "report", "show an edge", "write two sweeps", "run 20 + 20 sweeps"];
+type Sample<const K: usize> = [f64; K];
+const ITEMS: [&str; 7] =
+    ["read", "open", "report", "show an edge", "write two sweeps", "place", "run 20 + 20 sweeps"];
+/// Of a sheet that is there to place on.
+const PLACING: [&str; 2] = ["read", "place"];
 
-/// Answers whether both sides ended in the same buffers.
+/// Answers whether both sides ended in the same buffers, but for sets of nodes that each may name.
 pub fn bench(runs: usize) -> bool {
     let mut alike = true;
     for (name, parts) in sheets::bench_sheets(SEED) {
         let input = prepare(&parts);
-        let mut samples = Vec::new();
-        for _ in 0..runs.max(1) {
-            let (proved, left) = sample::<Proved>(&input);
-            let (twin, right) = sample::<Twin>(&input);
-            alike &= left == right;
-            samples.push((proved, twin));
-        }
-        println!("{name}: {} bytes, {} runs", input.sheet.len(), samples.len());
-        print(&samples);
+        let title = format!("{name}: {} bytes", input.sheet.len());
+        alike &= in_turns(&title, ITEMS, runs, || sample::<Proved>(&input), || sample::<Twin>(&input));
+    }
+    for (name, parts) in sheets::placing_sheets(SEED) {
+        let sheet = parts.bytes();
+        let title = format!("{name}: {} bytes", sheet.len());
+        let sides = (|| sample_placing::<Proved>(&sheet), || sample_placing::<Twin>(&sheet));
+        alike &= in_turns(&title, PLACING, runs, sides.0, sides.1);
     }
     println!("{}", if alike { "both sides ended in the same buffers" } else { "the buffers DIFFER" });
     alike
 }
 
-fn print(samples: &[(Sample, Sample)]) {
+/// Prints what both sides took; answers whether they ended alike.
+fn in_turns<const K: usize, T: PartialEq>(
+    title: &str,
+    items: [&str; K],
+    runs: usize,
+    proved: impl Fn() -> (Sample<K>, T),
+    twin: impl Fn() -> (Sample<K>, T),
+) -> bool {
+    let mut alike = true;
+    let mut samples = Vec::new();
+    for _ in 0..runs.max(1) {
+        let (proved, left) = proved();
+        let (twin, right) = twin();
+        alike &= left == right;
+        samples.push((proved, twin));
+    }
+    println!("{title}, {} runs", samples.len());
+    print(items, &samples);
+    alike
+}
+
+fn print<const K: usize>(items: [&str; K], samples: &[(Sample<K>, Sample<K>)]) {
     println!(
         "  {:<20}{:>14}{:>14}{:>10}",
         "",
@@ -52,7 +76,7 @@ fn print(samples: &[(Sample, Sample)]) {
         format!("{} ns", Twin::NAME),
         "ratio"
     );
-    for (place, item) in ITEMS.iter().enumerate() {
+    for (place, item) in items.iter().enumerate() {
         let proved = median(samples.iter().map(|(proved, _)| proved[place]));
         let twin = median(samples.iter().map(|(_, twin)| twin[place]));
         let ratio = median(samples.iter().map(|(proved, twin)| proved[place] / twin[place]));
@@ -82,11 +106,10 @@ fn prepare(parts: &Parts) -> Input {
     Input { sheet, opened, forward, backward }
 }
 
-/// One sample of every item, and the buffers after the sweeps.
-fn sample<S: Calls>(input: &Input) -> (Sample, Buffers) {
+/// One sample of every item, the buffers after the sweeps, and what was placed.
+fn sample<S: Calls>(input: &Input) -> (Sample<{ ITEMS.len() }>, (Buffers, Vec<u8>)) {
     let sheet = input.sheet.as_slice();
-    let mut answer = [0; READING];
-    let read = time(REPEAT, || black_box(S::read(black_box(sheet), black_box(&mut answer))));
+    let ([read, place], placed) = sample_placing::<S>(sheet);
     let mut lent = input.opened.clone();
     let open = time(REPEAT, || black_box(S::open(black_box(sheet), black_box(&mut lent))));
     let mut values = [0; VALUES];
@@ -103,7 +126,23 @@ fn sample<S: Calls>(input: &Input) -> (Sample, Buffers) {
     let mut lent = input.opened.clone();
     let sweeps = time(1, || run_sweeps::<S>(input, &mut lent));
     assert_eq!(S::report(sheet, &lent, &mut values), 0);
-    ([read, open, report, edge, write, sweeps], lent)
+    ([read, open, report, edge, write, place, sweeps], (lent, placed))
+}
+
+/// One sample, and what was placed: nothing if there is no matching.
+fn sample_placing<S: Calls>(sheet: &[u8]) -> (Sample<{ PLACING.len() }>, Vec<u8>) {
+    let mut answer = [0; READING];
+    let read = time(REPEAT, || black_box(S::read(black_box(sheet), black_box(&mut answer))));
+    let mut out = vec![0; MAX_NODES];
+    let place = time(REPEAT, || black_box(S::place(black_box(sheet), black_box(&mut out))));
+    let refusal = S::place(sheet, &mut out);
+    if refusal == Refusal::NoMatching as u8 {
+        assert!(checker::is_obstruction(sheet, &out));
+        out.clear();
+    } else {
+        assert_eq!(refusal, 0);
+    }
+    ([read, place], out)
 }
 
 fn run_sweeps<S: Calls>(input: &Input, lent: &mut Buffers) {

@@ -69,7 +69,8 @@ pub fn is_obstruction(sheet: &[u8], bytes: &[u8]) -> bool {
     if bytes.len() != nodes.len() || bytes.iter().any(|&byte| byte > 1) {
         return false;
     }
-    let members: Vec<&[u8]> = (0..nodes.len()).filter(|&node| bytes[node] == 1).map(|node| nodes[node]).collect();
+    let members: Vec<&[u8]> =
+        (0..nodes.len()).filter(|&node| bytes[node] == 1).map(|node| nodes[node]).collect();
     let mut labels = members.concat();
     labels.sort_unstable();
     labels.dedup();

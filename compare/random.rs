@@ -10,6 +10,8 @@ use crate::twin::{self, Refusal, Sheet, LIMIT, RECORD, TRAILER, VANISHED};
 
 const CALLS: [&str; 7] = ["read", "open", "run", "report", "sweep", "edge", "place"];
 const REFUSALS: usize = 17;
+const PLACED: u8 = 0;
+const NOT_PLACED: u8 = Refusal::NoMatching as u8;
 
 /// What shows the rules of the 255, of the unusable cells and of placing, by place in SEEN.
 #[derive(Clone, Copy)]
@@ -430,6 +432,8 @@ struct Case<'a> {
     twin: Buffers,
     layout: Layout,
     vanished: Vec<Place>,
+    /// By going through all labellings, unless there are too many.
+    smallest: Option<Option<Vec<u8>>>,
     tally: &'a mut Tally,
 }
 
@@ -475,7 +479,10 @@ fn compare_case(rng: &mut Rng, tally: &mut Tally) -> Result<(), Difference> {
     see_sheet(&sheet, &layout, tally);
     let buffers = layout.buffers();
     let vanished = layout.vanished();
-    let mut case = Case { sheet: &sheet, proved: buffers.clone(), twin: buffers, layout, vanished, tally };
+    let smallest = refusal(&sheet)
+        .map_or_else(|| checker::smallest_matching(&checker::labels_by_node(&sheet)), |_| None);
+    let (proved, twin) = (buffers.clone(), buffers);
+    let mut case = Case { sheet: &sheet, proved, twin, layout, vanished, smallest, tally };
     case.read(rng)?;
     case.edge(rng)?;
     case.poke_all(rng);
@@ -540,6 +547,16 @@ fn see_misplaced(layout: &Layout, tally: &mut Tally) {
     let twice = |own: &[u8]| own.iter().filter(|&&label| label == VANISHED).count() > 1;
     tally.see(Seen::NotLast, layout.labels.iter().any(|own| not_last(own)));
     tally.see(Seen::Twice, layout.labels.iter().any(|own| twice(own)));
+}
+
+/// Whether a node finds no label if each takes its first one that no earlier node has.
+fn gets_stuck(nodes: &[&[u8]]) -> bool {
+    let mut taken = Vec::new();
+    !nodes.iter().all(|own| {
+        let free = own.iter().find(|&&label| label == VANISHED || !taken.contains(&label));
+        taken.extend(free);
+        free.is_some()
+    })
 }
 
 /// The right number of places, now and then another.
@@ -684,21 +701,16 @@ impl Case<'_> {
     fn place(&mut self, rng: &mut Rng) -> Result<(), Difference> {
         let over_kept = rng.percent(20);
         let before = if over_kept { self.twin.incumbent.clone() } else { self.some_bytes(rng) };
-        let (mut left, mut right) = (before.clone(), before.clone());
-        let left_number = Proved::place(self.sheet, &mut left);
-        let number = Twin::place(self.sheet, &mut right);
+        let (left_number, mut left) = self.checked_place::<Proved>(&before)?;
+        let (number, right) = self.checked_place::<Twin>(&before)?;
         self.see_blocked(Seen::BlockedPlace, number, before.len() != self.layout.labels.len());
-        let named = number == Refusal::NoMatching as u8;
-        if !(self.placed_right(number, &before, &left) && self.placed_right(number, &before, &right)) {
-            return Err(Difference("place, by what is asked of it,"));
-        }
         match number {
-            0 => self.see_placed(&right, over_kept),
-            _ if named => self.see_named(&right, over_kept, left != right),
-            _ => self.see_unlent(number),
+            PLACED => self.see_placed(&right, over_kept),
+            NOT_PLACED => self.see_named(&right, over_kept, left != right),
+            _ => self.see_unplaced(number),
         }
         // Any such set may be named.
-        if named {
+        if number == NOT_PLACED && left_number == NOT_PLACED {
             left.clone_from(&right);
         }
         if over_kept {
@@ -713,16 +725,32 @@ impl Case<'_> {
         let nodes = self.layout.labels.len();
         let others = [0, 1, nodes + 1, nodes.saturating_sub(1), 2 * nodes, twin::MAX_NODES, 300];
         let length = if rng.percent(88) { nodes } else { rng.pick(&others) };
-        let same = rng.pick(&[None, Some(0), Some(1), Some(255)]);
+        let same = rng.pick(&[None, None, Some(0), Some(1), Some(255)]);
         (0..length).map(|_| same.unwrap_or(rng.byte())).collect()
     }
 
-    /// Whether a side's bytes are what its answer says they are.
-    fn placed_right(&self, number: u8, before: &[u8], after: &[u8]) -> bool {
-        match number {
-            0 => checker::is_matching(&self.nodes(), after),
-            16 => checker::is_obstruction(self.sheet, after),
-            _ => before == after,
+    /// What one side answers and the bytes after it, which have to be what the answer says they are.
+    fn checked_place<S: Calls>(&self, before: &[u8]) -> Result<(u8, Vec<u8>), Difference> {
+        let mut bytes = before.to_vec();
+        let number = S::place(self.sheet, &mut bytes);
+        let readable = refusal(self.sheet).is_none();
+        let right = match number {
+            PLACED => {
+                let smallest =
+                    self.smallest.as_ref().is_none_or(|matching| matching.as_ref() == Some(&bytes));
+                readable && smallest && checker::is_matching(&self.nodes(), &bytes)
+            }
+            NOT_PLACED => {
+                let none = self.smallest.as_ref().is_none_or(Option::is_none);
+                readable && none && checker::is_obstruction(self.sheet, &bytes)
+            }
+            _ => bytes == before,
+        };
+        if right {
+            Ok((number, bytes))
+        } else {
+            println!("{} answers {number} and leaves {bytes:?}", S::NAME);
+            Err(Difference("place from what it has to be"))
         }
     }
 
@@ -938,25 +966,52 @@ impl Case<'_> {
         }
     }
 
-    /// A placing.
     fn see_placed(&mut self, positions: &[u8], over_kept: bool) {
-        let first = positions.iter().all(|&position| position == 0);
         let none = positions.is_empty();
+        let first = positions.iter().all(|&position| position == 0);
         let vanished = self.vanished.iter().any(|place| usize::from(positions[place.node]) == place.position);
-        let others: Vec<&[u8]> = self.nodes().into_iter().map(twin::without_vanished).collect();
-        let in_turn = take_in_turn(&self.nodes());
+        let without: Vec<&[u8]> =
+            self.nodes().iter().map(|own| own.strip_suffix(&[VANISHED]).unwrap_or(own)).collect();
         let seen = [
             (Seen::PlacedNone, none),
             (Seen::PlacedOnFirst, first && !none),
             (Seen::PlacedElsewhere, !first),
-            (Seen::PlacedByChain, in_turn.is_none()),
+            (Seen::PlacedByChain, gets_stuck(&self.nodes())),
             (Seen::PlacedVanished, vanished),
-            (Seen::PlacedSaved, vanished && !checker::can_place(&others)),
+            (Seen::PlacedSaved, vanished && !checker::can_place(&without)),
+            (Seen::PlacedTried, self.smallest.is_some() && !none),
             (Seen::PlacedOverKept, over_kept && !none),
         ];
         for (what, occurs) in seen {
             self.tally.see(what, occurs);
         }
+    }
+
+    /// A set named by the twin; whether the library named another.
+    fn see_named(&mut self, bytes: &[u8], over_kept: bool, apart: bool) {
+        let members = bytes.iter().filter(|&&byte| byte == 1).count();
+        let others = (0..bytes.len()).filter(|&node| bytes[node] == 0).map(|node| self.nodes()[node]);
+        let others: Vec<&[u8]> = others.collect();
+        let seen = [
+            (Seen::NamedTwo, members == 2),
+            (Seen::NamedThree, members == 3),
+            (Seen::NamedMore, (4..=16).contains(&members)),
+            (Seen::NamedMany, members > 16),
+            (Seen::NamedAll, members == bytes.len()),
+            (Seen::NamedBesideVanished, !self.vanished.is_empty()),
+            (Seen::NamedOneOfSeveral, !checker::can_place(&others)),
+            (Seen::NamedTried, self.smallest.is_some()),
+            (Seen::NamedOverKept, over_kept),
+            (Seen::NamedApart, apart),
+        ];
+        for (what, occurs) in seen {
+            self.tally.see(what, occurs);
+        }
+    }
+
+    fn see_unplaced(&mut self, number: u8) {
+        let unlent = number == Refusal::Lent as u8;
+        self.tally.see(Seen::PlaceUnlent, unlent && !checker::can_place(&self.nodes()));
     }
 
     fn see_run(&mut self, number: u8, records: &[u8], counts: &[u64], before: &[u8]) {

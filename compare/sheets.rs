@@ -1,5 +1,7 @@
 //! Pseudo-random sheets, valid and damaged.
 
+use std::ops::Range;
+
 use crate::twin::{
     MARK, MAX_DEGREE, MAX_EDGES, MAX_EDGE_CELLS, MAX_LABELS, MAX_LENGTH, MAX_NODES, MAX_PRICE, TRAILER,
     VANISHED,
@@ -391,20 +393,50 @@ pub fn bench_sheets(seed: u64) -> [(&'static str, Parts); 2] {
     let rng = &mut Rng(seed);
     let shapes = [("64 nodes of degree 16, 16 edges", 16, 16), ("64 nodes of degree 4, 256 edges", 4, 256)];
     shapes.map(|(name, degree, edges)| {
-        let mut parts = Parts { label_limit: MAX_LABELS, ..Parts::default() };
-        for node in 0..MAX_NODES as u8 {
-            let mut others: Vec<u8> = (0..MAX_LABELS as u8).filter(|&label| label != node).collect();
-            let mut labels = some_labels(rng, &mut others, degree - 1);
-            labels.push(node);
-            parts.add_node(labels);
-        }
-        let mut pairs = all_pairs(MAX_NODES);
-        rng.shuffle(&mut pairs);
-        pairs.truncate(edges);
-        parts.set_edges(pairs, MAX_EDGE_CELLS);
-        parts.set_prices(rng, Prices::Wide);
-        (name, parts)
+        let nodes = (0..MAX_NODES).map(|node| labels_with(rng, node, 0..MAX_LABELS, degree)).collect();
+        (name, full_size(rng, nodes, edges))
     })
+}
+
+/// Two more sheets of the first one's size, to place on. Of the first the last 17 nodes have the same 16
+/// labels, which the others may have too: there is no matching, and the last node shows it. On the second
+/// every node chooses among 24 labels, the lower the higher its number, so that taking the first free label
+/// in turn gets stuck many times; that of 63 less its number is among them.
+pub fn placing_sheets(seed: u64) -> [(&'static str, Parts); 2] {
+    let rng = &mut Rng(seed);
+    let mut all: Vec<u8> = (0..MAX_LABELS as u8).collect();
+    let alike = vec![some_labels(rng, &mut all, MAX_DEGREE); MAX_DEGREE + 1];
+    let others = alike.len()..MAX_NODES;
+    let crowded = others.map(|_| some_labels(rng, &mut all, MAX_DEGREE)).chain(alike).collect();
+    let falling = (0..MAX_NODES).rev().map(|label| {
+        let low = label.saturating_sub(12).min(MAX_LABELS - 24);
+        labels_with(rng, label, low..low + 24, MAX_DEGREE)
+    });
+    let falling = falling.collect();
+    [
+        ("64 nodes of degree 16, no matching", full_size(rng, crowded, 16)),
+        ("64 nodes of degree 16, labels that fall", full_size(rng, falling, 16)),
+    ]
+}
+
+/// So many of the labels, one of which is given.
+fn labels_with(rng: &mut Rng, label: usize, of: Range<usize>, degree: usize) -> Vec<u8> {
+    let mut others: Vec<u8> = of.filter(|&other| other != label).map(|other| other as u8).collect();
+    let mut labels = some_labels(rng, &mut others, degree - 1);
+    labels.push(label as u8);
+    labels
+}
+
+/// Nodes with these labels, so many edges, and wide prices.
+fn full_size(rng: &mut Rng, nodes: Vec<Vec<u8>>, edges: usize) -> Parts {
+    let mut parts = Parts { label_limit: MAX_LABELS, ..Parts::default() };
+    nodes.into_iter().for_each(|labels| parts.add_node(labels));
+    let mut pairs = all_pairs(MAX_NODES);
+    rng.shuffle(&mut pairs);
+    pairs.truncate(edges);
+    parts.set_edges(pairs, MAX_EDGE_CELLS);
+    parts.set_prices(rng, Prices::Wide);
+    parts
 }
 
 /// The positions at which each node has the label of its own number.

@@ -6,3 +6,5 @@ pub mod Placings
 pub mod Trying
 pub mod Visiting
 pub mod Laying
+pub mod Answers
+pub mod Promised

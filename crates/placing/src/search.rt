@@ -162,7 +162,15 @@ pub(crate) fn extend(
     let first = heads[root] as usize;
     let begin = Sight { f: 0, i: first };
     let mut at = next_place(
-        slots, owners, allowed, heads, links, &seen, &queue, 1, begin,
+        slots,
+        owners,
+        allowed,
+        heads,
+        links,
+        &seen,
+        &queue,
+        1,
+        begin,
     );
     let mut i = at.i;
     while i < 1024 {
@@ -170,7 +178,16 @@ pub(crate) fn extend(
         let holder = holders[l];
         if 64 <= holder {
             let moved = shift(
-                n, slots, owners, allowed, &nodes, &reach, &ranks, root, start, i,
+                n,
+                slots,
+                owners,
+                allowed,
+                &nodes,
+                &reach,
+                &ranks,
+                root,
+                start,
+                i,
             );
             return Extended {
                 placed: true,
@@ -187,7 +204,15 @@ pub(crate) fn extend(
         queue[round] = holder;
         round += 1;
         at = next_place(
-            slots, owners, allowed, heads, links, &seen, &queue, round, at,
+            slots,
+            owners,
+            allowed,
+            heads,
+            links,
+            &seen,
+            &queue,
+            round,
+            at,
         );
         i = at.i;
     }

@@ -93,26 +93,44 @@ fn judge(
 {
     let shut = !kept[i];
     if shut {
-        return Verdict { attempt: false, keep: false };
+        return Verdict {
+            attempt: false,
+            keep: false,
+        };
     }
     let u = owners[i] as usize;
     if n <= u {
-        return Verdict { attempt: false, keep: true };
+        return Verdict {
+            attempt: false,
+            keep: true,
+        };
     }
     let here = at[u] as usize;
     if here < i {
-        return Verdict { attempt: false, keep: false };
+        return Verdict {
+            attempt: false,
+            keep: false,
+        };
     }
     if here == i {
-        return Verdict { attempt: false, keep: true };
+        return Verdict {
+            attempt: false,
+            keep: true,
+        };
     }
     let l = slots[i] as usize;
     let holder = holders[l];
     let owner = owners[i];
     if holder < owner {
-        return Verdict { attempt: false, keep: false };
+        return Verdict {
+            attempt: false,
+            keep: false,
+        };
     }
-    Verdict { attempt: true, keep: false }
+    Verdict {
+        attempt: true,
+        keep: false,
+    }
 }
 
 // The placing that is smallest when places are compared from node 0 on.
@@ -137,7 +155,16 @@ pub(crate) fn settle(
         let next = i + 1;
         let v = judge(n, slots, owners, &kept, &at, &holders, i);
         if v.attempt {
-            let r = try_place(n, slots, owners, heads, links, &kept, Placing { at, holders }, i);
+            let r = try_place(
+                n,
+                slots,
+                owners,
+                heads,
+                links,
+                &kept,
+                Placing { at, holders },
+                i,
+            );
             kept[i] = r.placed;
             if r.placed {
                 let moved = r.placing;
