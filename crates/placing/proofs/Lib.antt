@@ -1,4 +1,5 @@
 -- The laws of the search and of the loops around it.
+pub mod Agrees
 pub mod Shifting
 pub mod Searching
 pub mod Queues

@@ -2,3 +2,4 @@
 pub mod Placing
 pub mod Tables
 pub mod Laid
+pub mod Sample
