@@ -749,8 +749,8 @@ impl Case<'_> {
         if right {
             Ok((number, bytes))
         } else {
-            println!("{} answers {number} and leaves {bytes:?}", S::NAME);
-            Err(Difference("place from what it has to be"))
+            println!("{} answers {number} and leaves {bytes:?}, which is not so", S::NAME);
+            Err(Difference("place"))
         }
     }
 

@@ -4,15 +4,14 @@ use mathlib.Core.Path.{_≡_, refl, sym, ap, _∙_, subst}
 use mathlib.Core.Bool.{Bool, true, false, cond}
 use mathlib.Core.List.{List, [], _∷_}
 use mathlib.Core.Logic.{_⊎_, inl, inr, ⊎-elim}
-use Prim.Native.Nat.{ℕ, zero, suc, _+_, _-_, _≤_, _<_}
+use Prim.Native.Nat.{ℕ, _+_, _-_, _≤_, _<_}
 use native.Mathlib.Omega.{arith}
 use borrow.Author.Tests.{eq-eqb, eqb-true, ltb-true, ltb-false}
 use lib.Dec.{eqb, ltb}
 use lib.ListN.{length, getD, List·getD-eq-default}
 use lib.Seq.{ext-getD}
-use Rattle.integers.specs.Checks.{oneOf}
 use Rattle.integers.specs.Places.{tabulate}
-use Rattle.integers.proofs.Places.{by-test, by-cond, both-ways, if-true, if-false, and-true, and-both, or-split, left-true, right-true, length-tabulate, getD-tabulate}
+use Rattle.integers.proofs.Places.{by-test, by-cond, both-ways, if-true, if-false, and-true, and-both, length-tabulate, getD-tabulate}
 use Rattle.integers.proofs.Totals.{offset-part}
 use Rattle.instance.specs.Instance.{Instance, exclusive, first, nodeCells}
 use Rattle.instance.specs.Readable.{Proper}
@@ -22,29 +21,12 @@ use Rattle.rules.specs.Matchings.{matchings}
 use Rattle.rules.proofs.Matchings.{first-is, none-is}
 use Rattle.assignment.specs.Rows.{Rows, In, but, count, some, Node, Placed}
 use Rattle.assignment.specs.First.{First}
-use Rattle.assignment.proofs.Counts.{differ, by-same, true-but, pigeonhole}
+use Rattle.assignment.proofs.Counts.{differ, by-same, some-at, at-some, true-but, pigeonhole}
 use Rattle.assignment.proofs.Halls.{closed-shared}
 use Rattle.placing.specs.Placing.{member, labelled, Places, Obstruction}
 use Rattle.placing.specs.Tables.{entry, flag, rowsOf, Blocked}
 use Rattle.placing.specs.Laid.{slotOf, Filled}
 use Rattle.placing.proofs.Placings.{rows-proper, blocked-few, blocked-small}
-
--- ---- some place passes
-
-some-at : (n : ℕ) (t : ℕ → Bool) → some n t ≡ true → (i : ℕ) × (i < n) × In t i
-unfolding some
-some-at zero t e = absurd (differ e refl)
-some-at (suc n) t e = ⊎-elim (λ (q : some n t ≡ true). let (i, l, h) = some-at n t q in (i, omega arith, h)) (λ (h : t n ≡ true). (n, omega arith, h)) (or-split (some n t) (t n) e)
-
-at-some : (n : ℕ) (t : ℕ → Bool) (i : ℕ) → i < n → In t i → some n t ≡ true
-unfolding some
-at-some zero t i h e = absurd (omega arith)
-at-some (suc n) t i h e = by-same i n (λ q. right-true (some n t) (ap t (sym q) ∙ e)) (λ q. left-true (t n) (at-some n t i (omega arith) e))
-
-one-of-some : (n : ℕ) (f : ℕ → ℕ) (l : ℕ) → oneOf n f l ≡ some n (λ k. eqb l (f k))
-unfolding oneOf some
-one-of-some zero f l = refl
-one-of-some (suc n) f l = rw (one-of-some n f l)
 
 -- ---- the labels of a set of nodes
 
@@ -54,14 +36,14 @@ module _ (I : Instance) (S : ℕ → Bool) where
   labelled-at l e =
       let (u, h, b) = some-at (I .nodeCount) _ e in
       let (s, o) = and-true (S u) _ b in
-      let (k, j, t) = some-at (I .degree u) _ (sym (one-of-some (I .degree u) _ l) ∙ o) in
-      (u, k, h, j, s, eqb-true l (I .label (first I u + k)) t)
+      let (k, j, t) = some-at (I .degree u) _ o in
+      (u, k, h, j, s, sym (eqb-true (I .label (first I u + k)) l t))
 
   at-labelled : (u k : ℕ) → u < I .nodeCount → k < I .degree u → In S u → In (labelled I S) (I .label (first I u + k))
   unfolding labelled
   at-labelled u k h j s =
       let l = I .label (first I u + k) in
-      at-some (I .nodeCount) _ u h (and-both s (one-of-some (I .degree u) _ l ∙ at-some (I .degree u) _ k j (eq-eqb l l refl)))
+      at-some (I .nodeCount) _ u h (and-both s (at-some (I .degree u) _ k j (eq-eqb l l refl)))
 
 -- ---- sets of nodes as bytes
 

@@ -5,7 +5,7 @@ use mathlib.Core.List.{List, [], _∷_, _++_}
 use Prim.Native.Nat.{ℕ, _+_, _≤_, _<_}
 use lib.Dec.{eqb, ltb}
 use lib.ListN.{length, getD}
-use Rattle.integers.specs.Checks.{oneOf, firstFailure}
+use Rattle.integers.specs.Checks.{firstFailure}
 use Rattle.instance.specs.Instance.{Instance, exclusive, first}
 use Rattle.instance.specs.Sheet.{instanceOf, checks}
 use Rattle.rules.specs.Costs.{Labelling, chosen}
@@ -19,7 +19,7 @@ member x u = eqb (getD x u 0) 1
 module _ (I : Instance) where
   -- whether some node of S has the label l
   unfoldable pub labelled : (ℕ → Bool) → ℕ → Bool
-  labelled S l = some (I .nodeCount) (λ u. S u && oneOf (I .degree u) (λ k. I .label (first I u + k)) l)
+  labelled S l = some (I .nodeCount) (λ u. S u && some (I .degree u) (λ k. eqb (I .label (first I u + k)) l))
 
   -- x places the nodes of S: it has a position for each, and no two of them take the same label
   pub record Places (S : ℕ → Bool) (x : List ℕ) : Type 0 where

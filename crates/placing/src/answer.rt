@@ -32,10 +32,10 @@ fn write_members(nodes: &[bool; 64], out: &mut [u8])
     requires { ⌜ length (now out) ≤ 64 ⌝ }
     ensures { λ _. ⌜ now (out .exit) ≡ tabulate (length (now (out .entry))) (λ u. cond (flag (now (nodes .entry)) u) 1 0) ⌝ }
 {
-    let mut u = 0;
-    while u < out.len() {
-        out[u] = nodes[u] as u8;
-        u += 1;
+    let mut node = 0;
+    while node < out.len() {
+        out[node] = nodes[node] as u8;
+        node += 1;
     }
 }
 

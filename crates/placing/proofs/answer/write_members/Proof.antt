@@ -17,14 +17,14 @@ byte-is true = refl
 byte-is false = refl
 
 abbrev Inv-loop : tie.InvT-loop
-Inv-loop nodes out₀ u₀ out u = Filling (λ w. cond (flag nodes w) 1 0) out₀ out u
+Inv-loop nodes out₀ node₀ out node = Filling (λ w. cond (flag nodes w) 1 0) out₀ out node
 
 abbrev μ-loop : tie.MeasureT-loop
-μ-loop nodes out₀ u₀ out u = length out₀ - u
+μ-loop nodes out₀ node₀ out node = length out₀ - node
 
 -- a node of the turn
 module _ (t : tie.In-loop Inv-loop μ-loop) where
-  inside : t .before .loop .u < length (now (t .before .before .args .out))
+  inside : t .before .loop .node < length (now (t .before .before .args .out))
   inside = omega (arith, t .loop-test .taken, t .before .loop .inv .long)
 
 loop-holds : tie.Need-loop-holds Inv-loop μ-loop
@@ -39,8 +39,8 @@ cast-out c = tt
 slice-write-out : tie.Need-slice-write-out Inv-loop μ-loop
 slice-write-out c = c .before .loop-test .taken
 
-add-u : tie.Need-add-u Inv-loop μ-loop
-add-u c = omega (arith, inside (c .before), c .before .before .before .pre)
+add-node : tie.Need-add-node Inv-loop μ-loop
+add-node c = omega (arith, inside (c .before), c .before .before .before .pre)
 
 loop-less : tie.Need-loop-less Inv-loop μ-loop
 loop-less c = omega (arith, inside (c .before))
@@ -49,7 +49,7 @@ loop-again : tie.Need-loop-again Inv-loop μ-loop
 loop-again c =
     let h = c .before .before in
     let f = flag (now (h .before .args .nodes)) in
-    subst (λ b. Filling (λ w. cond (f w) 1 0) (now (h .before .args .out)) (set (h .loop .out) (h .loop .u) b) (h .loop .u + 1)) (sym (byte-is (f (h .loop .u))))
+    subst (λ b. Filling (λ w. cond (f w) 1 0) (now (h .before .args .out)) (set (h .loop .out) (h .loop .node) b) (h .loop .node + 1)) (sym (byte-is (f (h .loop .node))))
     (fill-more (λ w. cond (f w) 1 0) 0 (h .loop .inv) (inside (c .before)))
 
 same-length : tie.Need-same-length Inv-loop μ-loop
@@ -68,7 +68,7 @@ write-members-spec =
     element-copy-out-out
     cast-out
     slice-write-out
-    add-u
+    add-node
     loop-less
     loop-again
     same-length
