@@ -159,7 +159,7 @@ const SEEN: [&str; Seen::NamedApart as usize + 1] = [
     "sets named, of two nodes",
     "sets named, of three",
     "sets named, of four to sixteen",
-    "sets named, of more",
+    "sets named, of seventeen or more",
     "sets named, of all nodes there are",
     "sets named where another node has a 255",
     "sets named where the other nodes cannot be placed either",
@@ -990,8 +990,8 @@ impl Case<'_> {
     /// A set named by the twin; whether the library named another.
     fn see_named(&mut self, bytes: &[u8], over_kept: bool, apart: bool) {
         let members = bytes.iter().filter(|&&byte| byte == 1).count();
-        let others = (0..bytes.len()).filter(|&node| bytes[node] == 0).map(|node| self.nodes()[node]);
-        let others: Vec<&[u8]> = others.collect();
+        let others = self.nodes().into_iter().zip(bytes).filter(|&(_, &byte)| byte == 0);
+        let others: Vec<&[u8]> = others.map(|(own, _)| own).collect();
         let seen = [
             (Seen::NamedTwo, members == 2),
             (Seen::NamedThree, members == 3),

@@ -398,14 +398,14 @@ pub fn bench_sheets(seed: u64) -> [(&'static str, Parts); 2] {
     })
 }
 
-/// Two more sheets of the first one's size, to place on. Of the first the last 17 nodes have the same 16
-/// labels, which the others may have too: there is no matching, and the last node shows it. On the second
-/// every node chooses among 24 labels, the lower the higher its number, so that taking the first free label
-/// in turn gets stuck many times; that of 63 less its number is among them.
+/// Two more sheets of the first one's size, to place on. Of the first the last 17 nodes have the 16 lowest
+/// labels, which are taken by then: there is no matching, and the last node shows it. On the second each
+/// node chooses among 24 labels, the lower the higher its number, so that taking the first free label in turn
+/// gets stuck; that of 63 less its number is among them, so that there is a matching.
 pub fn placing_sheets(seed: u64) -> [(&'static str, Parts); 2] {
     let rng = &mut Rng(seed);
     let mut all: Vec<u8> = (0..MAX_LABELS as u8).collect();
-    let alike = vec![some_labels(rng, &mut all, MAX_DEGREE); MAX_DEGREE + 1];
+    let alike = vec![all[..MAX_DEGREE].to_vec(); MAX_DEGREE + 1];
     let others = alike.len()..MAX_NODES;
     let crowded = others.map(|_| some_labels(rng, &mut all, MAX_DEGREE)).chain(alike).collect();
     let falling = (0..MAX_NODES).rev().map(|label| {

@@ -2,7 +2,7 @@
 
 use crate::calls::{Buffers, Calls, COUNTS, READING, SPAN, VALUES};
 use crate::checker;
-use crate::twin::Refusal;
+use crate::twin::{self, Refusal};
 
 const PLACE: u8 = 7;
 const OPS: [(u8, &str); 9] = [
@@ -156,7 +156,7 @@ fn replay_case<S: Calls>(case: u32, cursor: &mut Cursor, tally: &mut Tally) -> O
 
 /// What a file has for every set of nodes that may be named, and another number for one that may not.
 fn of_obstruction(sheet: &[u8], bytes: &[u8]) -> u64 {
-    if checker::is_obstruction(sheet, bytes) {
+    if twin::read(sheet).is_ok() && checker::is_obstruction(sheet, bytes) {
         0
     } else {
         u64::MAX
