@@ -6,10 +6,11 @@
  * slice of that call. The rest each call checks itself: it takes any content and any length, and returns.
  *
  * Each call returns a refusal's number. A refusal alters nothing but what is said here of the counts of a
- * run, of the answer of a reading and of the span of an edge, which carry an answer of their own then. A
- * buffer of another number of places than stated, an answer's too, is refused with 8, where 8 stands in the
- * order of the checks, and ahead of any effect. So read what a call stores only if it returned 0, or if it
- * is one of those three and did not return 8.
+ * run, of the answer of a reading and of the span of an edge, which carry an answer of their own then, and of
+ * the bytes of a placing at 16, which name a set of nodes. A buffer of another number of places than stated,
+ * an answer's too, is refused with 8, where 8 stands in the order of the checks, and ahead of any effect. So
+ * read what a call stores only if it returned 0, or if it is one of those three and did not return 8, or if
+ * it is a placing and returned 16.
  *
  * Each call reads the sheet afresh, keeps nothing between calls, allocates nothing, and writes only the
  * buffers of which it is said here. What is said of each is proved of the source; this file is not read by
@@ -85,6 +86,17 @@ uint8_t cirbaldu_sweep(const uint8_t *sheet, size_t sheet_len,
 uint8_t cirbaldu_edge(const uint8_t *sheet, size_t sheet_len,
                       size_t edge,
                       uint64_t *span, size_t span_len);
+
+/* Places all nodes.
+ * Returns the refusal: 1 to 7 or 15 for the sheet, 8 if out has not exactly n places, 16 if the sheet has no
+ * matching.
+ * out: the position of each node in the matching that is smallest when positions are compared from node 0 on.
+ * At 16, and at no other refusal, out is written: 1 for each member of a set of nodes that together have
+ * fewer labels than members, none of them with 255, and of which without any one member the rest can be
+ * placed; 0 for the other nodes. Where several such sets exist any may be named.
+ * If out is the incumbent of opened buffers, what is said of bound and gap starts anew with the next opening. */
+uint8_t cirbaldu_place(const uint8_t *sheet, size_t sheet_len,
+                       uint8_t *out, size_t out_len);
 
 #ifdef __cplusplus
 }

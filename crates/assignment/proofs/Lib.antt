@@ -2,3 +2,4 @@
 pub mod Counts
 pub mod Halls
 pub mod Shifts
+pub mod Firsts

@@ -25,7 +25,7 @@ use Rattle.assignment.proofs.Counts.{differ, by-same, some-at, at-some, true-bu
 use Rattle.assignment.proofs.Halls.{closed-shared}
 use Rattle.placing.specs.Placing.{member, labelled, Places, Obstruction}
 use Rattle.placing.specs.Tables.{entry, flag, rowsOf, Blocked}
-use Rattle.placing.specs.Laid.{slotOf, Filled}
+use Rattle.placing.specs.Laid.{slotOf, Filled, Opens}
 use Rattle.placing.proofs.Placings.{rows-proper, blocked-few, blocked-small}
 
 -- ---- the labels of a set of nodes
@@ -100,7 +100,7 @@ module _ (I : Instance) {p : ℕ → ℕ} (row : (u : ℕ) → u < I .nodeCount 
   unfolding chosen
   positions-chosen u h = omega (arith, position-is u h, row u h)
 
-module _ {I : Instance} (proper : Proper I) {slots owners : List ℕ} {allowed : List Bool} (filled : Filled I (nodeCells I) slots owners allowed) where
+module _ {I : Instance} (proper : Proper I) {slots owners : List ℕ} {allowed : List Bool} (filled : Filled I (nodeCells I) slots owners) (opens : Opens (nodeCells I) allowed) where
   abbrev rows : Rows
   rows = rowsOf (I .nodeCount) slots owners allowed
 
@@ -110,14 +110,14 @@ module _ {I : Instance} (proper : Proper I) {slots owners : List ℕ} {allowed :
   open-place : {u i : ℕ} → rows .may u i → (u < I .nodeCount) × InRow I u i × (entry slots i ≡ slotOf (I .label i) u)
   unfolding first
   open-place {u} {i} (_, b, o) =
-      let h : i < nodeCells I = by-test (ltb i (nodeCells I)) (ltb-true i (nodeCells I)) (λ e. absurd (differ o (filled .shut i (ltb-false i (nodeCells I) e)))) in
+      let h : i < nodeCells I = by-test (ltb i (nodeCells I)) (ltb-true i (nodeCells I)) (λ e. absurd (differ o (opens .shut i (ltb-false i (nodeCells I) e)))) in
       let (w, l, f, g) = offset-part (I .degree) (I .nodeCount) i h in
       let e : first I w + (i - first I w) ≡ i = omega arith in
       let q = rw e at (filled .place w (i - first I w) l (omega arith) (omega arith)) in
       subst (λ v. (v < I .nodeCount) × InRow I v i × (entry slots i ≡ slotOf (I .label i) v)) (sym (q .1) ∙ b) (l, (f, g), q .0)
 
   place-open : (u k : ℕ) → u < I .nodeCount → k < I .degree u → rows .may u (first I u + k)
-  place-open u k h j = let r = row-inside I h in let a = filled .place u k h j (omega arith) in (omega (arith, positions-few proper), a .1, a .2)
+  place-open u k h j = let r = row-inside I h in (omega (arith, positions-few proper), filled .place u k h j (omega arith) .1, opens .inside (first I u + k) (omega arith))
 
   -- the slot is the label, below 64, or the node's own
   slot-label : {u i : ℕ} → rows .may u i → exclusive (I .label i) ≡ true → (entry slots i ≡ I .label i) × (I .label i < 64)

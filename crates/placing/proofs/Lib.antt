@@ -4,6 +4,7 @@ pub mod Shifting
 pub mod Searching
 pub mod Queues
 pub mod Placings
+pub mod Taken
 pub mod Trying
 pub mod Visiting
 pub mod Laying

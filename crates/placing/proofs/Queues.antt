@@ -1,4 +1,4 @@
--- The places of the nodes of a queue, one node after the other: chains of places, and what was passed.
+-- The places of the nodes of a queue, one node after the other, and what was passed.
 -- Assumes nothing.
 use mathlib.Core.Path.{_≡_, refl, sym, ap, _∙_}
 use mathlib.Core.Bool.{Bool, true, false, not, _&&_}
@@ -13,63 +13,41 @@ use lib.Seq.{getD-set-same, getD-set-other}
 use Rattle.integers.proofs.Places.{by-test, and-true, and-both}
 use Rattle.assignment.specs.Rows.{In}
 use Rattle.assignment.proofs.Counts.{differ, by-same}
-use Rattle.placing.specs.Tables.{entry, flag, leads, NextPlace, FirstFrom, Chains, Passed, Sighted}
+use Rattle.placing.specs.Tables.{entry, flag, leads, NextPlace, FirstFrom, Sorted, Rowed, Passed, Sighted}
 use Rattle.placing.proofs.Searching.{flag-none, flag-more}
 
 by-below : {A : Type 0} (w u : ℕ) → (w < u → A) → (u ≤ w → A) → A
 by-below w u f g = by-test (ltb w u) (λ e. f (ltb-true w u e)) (λ e. g (ltb-false w u e))
 
--- ---- the chains, from the last place down
+-- ---- the places of a node
 
-pub record Chaining (owners heads links : List ℕ) (i : ℕ) : Type 0 where
-  pub within : i ≤ 1024
-  pub size-heads : length heads ≡ 64
-  pub size-links : length links ≡ 1024
-  pub head : (u : ℕ) → u < 64 → FirstFrom owners u i (entry heads u)
-  pub link : (k : ℕ) → i ≤ k → k < 1024 → FirstFrom owners (entry owners k) (k + 1) (entry links k)
+-- the next place of an owner follows at once, or there is none
+module _ {owners : List ℕ} (sorted : Sorted owners) {i : ℕ} (h : i < 1024) where
+  pub next-here : i + 1 < 1024 → entry owners (i + 1) ≡ entry owners i → FirstFrom owners (entry owners i) (i + 1) (i + 1)
+  next-here b e = record { from = omega arith; within = omega arith; owned = λ _. e; before = λ k a c. absurd (omega arith) }
 
-pub chaining-none : (owners : List ℕ) → Chaining owners (replicate 64 1024) (replicate 1024 1024) 1024
-chaining-none owners = record {
-  within = omega arith;
-  size-heads = length-replicate {A = ℕ} 64 1024;
-  size-links = length-replicate {A = ℕ} 1024 1024;
-  head = λ u h. rw (getD-replicate {A = ℕ} 64 u 1024 0 h) (record { from = omega arith; within = omega arith; owned = λ g. absurd (omega arith); before = λ k a b. absurd (omega arith) });
-  link = λ k a b. absurd (omega arith);
-}
-
-module _ {owners heads links : List ℕ} {i : ℕ} (c : Chaining owners heads links i) where
-  pub chaining-more : (j : ℕ) → j + 1 ≡ i → entry owners j < 64
-      → Chaining owners (set heads (entry owners j) j) (set links j (entry heads (entry owners j))) j
-  chaining-more j e h =
-      let w = c .within in let s = c .size-heads in let s′ = c .size-links in
-      record {
-        within = omega arith;
-        size-heads = simp length-set (c .size-heads);
-        size-links = simp length-set (c .size-links);
-        head = λ u g. by-same u (entry owners j)
-            (λ q. rw (q, getD-set-same heads (entry owners j) j 0 (omega arith)) (record { from = omega arith; within = omega arith; owned = λ _. refl; before = λ k a b. absurd (omega arith) }))
-            (λ q. rw (getD-set-other heads (entry owners j) u j 0 q)
-            (let f = c .head u g in let a = f .from in
-            record { from = omega arith; within = f .within; owned = f .owned; before = λ k x y z. by-same k j (λ p. q (sym z ∙ ap (entry owners) p)) (λ p. f .before k (omega arith) y z) }));
-        link = λ k a b. by-same k j
-            (λ q. rw (q, getD-set-same links j (entry heads (entry owners j)) 0 (omega arith), e) (c .head (entry owners j) h))
-            (λ q. rw (getD-set-other links j k (entry heads (entry owners j)) 0 q) (c .link k (omega arith) b));
-      }
-
-  pub chaining-done : i ≤ 0 → Chains owners heads links
-  chaining-done h = record {
-    head = λ u g. let f = c .head u g in record { from = omega arith; within = f .within; owned = f .owned; before = λ k x y z. f .before k (omega arith) y z };
-    link = λ k g. c .link k (omega arith) g;
+  pub next-none : (i + 1 < 1024 → entry owners (i + 1) ≡ entry owners i → ⊥) → FirstFrom owners (entry owners i) (i + 1) 1024
+  next-none d = record {
+    from = omega arith;
+    within = omega arith;
+    owned = λ b. absurd (omega arith);
+    before = λ k a c e.
+        let low = sorted i (i + 1) (omega arith) (omega arith) in
+        let up = sorted (i + 1) k a c in
+        d (omega arith) (omega arith);
   }
+
+-- the first places of fewer nodes
+pub rowed-part : {m n : ℕ} {owners heads : List ℕ} → m ≤ n → Rowed n owners heads → Rowed m owners heads
+rowed-part h r = record { head = λ u g. r .head u (omega arith); sorted = r .sorted }
 
 -- ---- the queue
 
-module _ {owners heads links : List ℕ} (c : Chains owners heads links) where
-  module _ {t : ℕ → Bool} {queue : List ℕ} {count f i : ℕ} (p : Passed owners t queue count f i) (more : f < count) where
+module _ {n : ℕ} {owners heads : List ℕ} (c : Rowed n owners heads) where
+  module _ {t : ℕ → Bool} {queue : List ℕ} {count f i : ℕ} (p : Passed n owners t queue count f i) (more : f < count) where
     -- a place that does not pass
-    pub passed-on : i < 1024 → t i ≡ false → Passed owners t queue count f (entry links i)
-    passed-on h e =
-        let l = c .link i h in
+    pub passed-on : i < 1024 → t i ≡ false → {r : ℕ} → FirstFrom owners (entry owners i) (i + 1) r → Passed n owners t queue count f r
+    passed-on h e l =
         record {
           few = p .few;
           nodes = p .nodes;
@@ -82,7 +60,7 @@ module _ {owners heads links : List ℕ} (c : Chains owners heads links) where
         }
 
     -- the next node
-    pub passed-row : 1024 ≤ i → (r : ℕ) → ((f + 1 < count → r ≡ entry heads (entry queue (f + 1))) × (count ≤ f + 1 → r ≡ 1024)) → Passed owners t queue count (f + 1) r
+    pub passed-row : 1024 ≤ i → (r : ℕ) → ((f + 1 < count → r ≡ entry heads (entry queue (f + 1))) × (count ≤ f + 1 → r ≡ 1024)) → Passed n owners t queue count (f + 1) r
     passed-row h r e = record {
       few = p .few;
       nodes = p .nodes;
@@ -94,7 +72,7 @@ module _ {owners heads links : List ℕ} (c : Chains owners heads links) where
     }
 
 -- where it ends
-pub passed-end : {owners : List ℕ} {t : ℕ → Bool} {queue : List ℕ} {count f i : ℕ} → Passed owners t queue count f i → count ≤ f → Sighted owners t queue count f 1024
+pub passed-end : {n : ℕ} {owners : List ℕ} {t : ℕ → Bool} {queue : List ℕ} {count f i : ℕ} → Passed n owners t queue count f i → count ≤ f → Sighted n owners t queue count f 1024
 passed-end p h = record {
   passed = record {
     few = p .few;
@@ -112,9 +90,9 @@ passed-end p h = record {
 -- ---- the search
 
 -- the nodes of the queue are those reached
-pub record Queued (slots owners : List ℕ) (allowed nodes seen : List Bool) (queue : List ℕ) (count f i : ℕ) : Type 0 where
+pub record Queued (n : ℕ) (slots owners : List ℕ) (allowed nodes seen : List Bool) (queue : List ℕ) (count f i : ℕ) : Type 0 where
   pub size : length queue ≡ 129
-  pub sighted : Sighted owners (leads slots allowed seen) queue count f i
+  pub sighted : Sighted n owners (leads slots allowed seen) queue count f i
   pub all : (z : ℕ) → In (flag nodes) z → (g : ℕ) × (g < count) × (entry queue g ≡ z)
   pub reached : (g : ℕ) → g < count → In (flag nodes) (entry queue g)
 
@@ -122,7 +100,7 @@ pub record Queued (slots owners : List ℕ) (allowed nodes seen : List Bool) (qu
 first-queued : (root : ℕ) → entry (set (replicate 129 0) 0 root) 0 ≡ root
 first-queued root = getD-set-same (replicate 129 0) 0 root 0 (omega (arith, length-replicate {A = ℕ} 129 0))
 
-pub passed-root : {owners heads links : List ℕ} → Chains owners heads links → (t : ℕ → Bool) (root : ℕ) → root < 64 → Passed owners t (set (replicate 129 0) 0 root) 1 0 (entry heads root)
+pub passed-root : {n : ℕ} {owners heads : List ℕ} → Rowed n owners heads → (t : ℕ → Bool) (root : ℕ) → root < n → Passed n owners t (set (replicate 129 0) 0 root) 1 0 (entry heads root)
 passed-root c t root h =
     let l = c .head root h in
     let q = first-queued root in
@@ -136,9 +114,9 @@ passed-root c t root h =
       past = λ _ k x y. absurd (l .before k (omega arith) x (y ∙ q));
     }
 
-pub queued-root : {slots owners : List ℕ} {allowed : List Bool} (root : ℕ) {f i : ℕ} → root < 64
-    → Sighted owners (leads slots allowed (replicate 128 false)) (set (replicate 129 0) 0 root) 1 f i
-    → Queued slots owners allowed (set (replicate 64 false) root true) (replicate 128 false) (set (replicate 129 0) 0 root) 1 f i
+pub queued-root : {n : ℕ} {slots owners : List ℕ} {allowed : List Bool} (root : ℕ) {f i : ℕ} → root < 64
+    → Sighted n owners (leads slots allowed (replicate 128 false)) (set (replicate 129 0) 0 root) 1 f i
+    → Queued n slots owners allowed (set (replicate 64 false) root true) (replicate 128 false) (set (replicate 129 0) 0 root) 1 f i
 queued-root root h s =
     let q = first-queued root in
     record {
@@ -148,7 +126,7 @@ queued-root root h s =
       reached = λ g x. let e : g ≡ 0 = omega arith in rw (e, q) (getD-set-same (replicate 64 false) root true false (omega (arith, length-replicate 64 false)));
     }
 
-module _ {slots owners : List ℕ} {allowed nodes seen : List Bool} {queue : List ℕ} {count f i : ℕ} (s : Queued slots owners allowed nodes seen queue count f i) where
+module _ {n : ℕ} {slots owners : List ℕ} {allowed nodes seen : List Bool} {queue : List ℕ} {count f i : ℕ} (s : Queued n slots owners allowed nodes seen queue count f i) where
   -- what the search finds
   pub queued-next : NextPlace owners nodes (leads slots allowed seen) i
   queued-next = record {
@@ -157,7 +135,7 @@ module _ {slots owners : List ℕ} {allowed nodes seen : List Bool} {queue : Lis
   }
 
   -- one node and one slot more
-  module _ (more : i < 1024) (h l : ℕ) (small : h < 64) (size-nodes : length nodes ≡ 64) (size-seen : length seen ≡ 128) (slot : l < 128) (few : count ≤ 128) where
+  module _ (more : i < 1024) (h l : ℕ) (small : h < n) (room : h < 64) (size-nodes : length nodes ≡ 64) (size-seen : length seen ≡ 128) (slot : l < 128) (few : count ≤ 128) where
     later : (k : ℕ) → leads slots allowed seen k ≡ false → leads slots allowed (set seen l true) k ≡ false
     unfolding leads
     later k e = by-test (flag allowed k && not (flag (set seen l true) (entry slots k)))
@@ -175,7 +153,7 @@ module _ {slots owners : List ℕ} {allowed nodes seen : List Bool} {queue : Lis
     new : entry (set queue count h) count ≡ h
     new = let z = s .size in getD-set-same queue count h 0 (omega arith)
 
-    pub passed-more : Passed owners (leads slots allowed (set seen l true)) (set queue count h) (count + 1) f i
+    pub passed-more : Passed n owners (leads slots allowed (set seen l true)) (set queue count h) (count + 1) f i
     passed-more =
         let p = s .sighted .passed in
         let b : f < count = s .sighted .passes more .0 in
@@ -189,8 +167,8 @@ module _ {slots owners : List ℕ} {allowed nodes seen : List Bool} {queue : Lis
           past = λ _ k x q. later k (p .past b k x (q ∙ old f b));
         }
 
-    pub queued-more : {f′ i′ : ℕ} → Sighted owners (leads slots allowed (set seen l true)) (set queue count h) (count + 1) f′ i′
-        → Queued slots owners allowed (set nodes h true) (set seen l true) (set queue count h) (count + 1) f′ i′
+    pub queued-more : {f′ i′ : ℕ} → Sighted n owners (leads slots allowed (set seen l true)) (set queue count h) (count + 1) f′ i′
+        → Queued n slots owners allowed (set nodes h true) (set seen l true) (set queue count h) (count + 1) f′ i′
     queued-more t = record {
       size = simp length-set (s .size);
       sighted = t;

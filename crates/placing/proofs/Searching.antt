@@ -132,6 +132,9 @@ module _ {n : ℕ} {slots owners : List ℕ} {allowed : List Bool} {root : ℕ} 
         taker : But (Node (rowsOf n slots owners allowed)) root (entry holders (entry slots i)) × (entry slots (entry at (entry holders (entry slots i))) ≡ entry slots i)
         taker = s .ready .placing .holding .held (entry slots i) (λ e. omega (arith, new-slot)) new-slot taken
 
+        pub new-node : entry holders (entry slots i) < n
+        new-node = taker .0 .0
+
         fresh : flag nodes (entry holders (entry slots i)) ≡ false
         fresh = by-test (flag nodes (entry holders (entry slots i)))
             (λ e. absurd (differ (s .even (entry holders (entry slots i)) e (taker .0 .1)) (ap (flag seen) (taker .1) ∙ leading .1 .1))) (λ e. e)

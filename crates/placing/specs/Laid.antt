@@ -11,14 +11,17 @@ use Rattle.placing.specs.Tables.{entry, flag, Tables}
 unfoldable pub slotOf : ℕ → ℕ → ℕ
 slotOf label u = cond (exclusive label) label (64 + u)
 
--- the places below `past` are filled: each has its slot and its node, and is open
-pub record Filled (I : Instance) (past : ℕ) (slots owners : List ℕ) (allowed : List Bool) : Type 0 where
+-- the places below `past` are filled: each has its slot and its node; those behind belong to none
+pub record Filled (I : Instance) (past : ℕ) (slots owners : List ℕ) : Type 0 where
   pub place : (u k : ℕ) → u < I .nodeCount → k < I .degree u → first I u + k < past
-      → (entry slots (first I u + k) ≡ slotOf (I .label (first I u + k)) u) × (entry owners (first I u + k) ≡ u) × In (flag allowed) (first I u + k)
-  pub shut : (i : ℕ) → past ≤ i → flag allowed i ≡ false
+      → (entry slots (first I u + k) ≡ slotOf (I .label (first I u + k)) u) × (entry owners (first I u + k) ≡ u)
+  pub behind : (i : ℕ) → past ≤ i → i < 1024 → entry owners i ≡ 64
   pub tables : Tables slots owners
-  -- those behind have the last owner, so that the owners rise
-  pub behind : (i : ℕ) → past ≤ i → i < 1024 → entry owners i ≡ 63
   pub size-slots : length slots ≡ 1024
   pub size-owners : length owners ≡ 1024
-  pub size-allowed : length allowed ≡ 1024
+
+-- the places below `count` are open
+pub record Opens (count : ℕ) (allowed : List Bool) : Type 0 where
+  pub size : length allowed ≡ 1024
+  pub inside : (i : ℕ) → i < count → In (flag allowed) i
+  pub shut : (i : ℕ) → count ≤ i → flag allowed i ≡ false

@@ -1,4 +1,4 @@
--- The rows as tables over places. A place is a position of a node, counted through all nodes: its node is its owner, its slot one of 128.
+-- The rows as tables over places. A place is a position of a node, counted through all nodes: its node is its owner, its slot one of 128; the owner 64 is none.
 -- So a node's position is kept as a place, and the rows ask only that the node owns it and that it is open.
 use mathlib.Core.Path.{_≡_}
 use mathlib.Core.Bool.{Bool, true, false, not, _&&_, _||_}
@@ -8,7 +8,7 @@ use Prim.Native.Nat.{ℕ, _+_, _≤_, _<_}
 use lib.Dec.{eqb}
 use lib.ListN.{length, getD, set}
 use Rattle.assignment.specs.Rows.{Rows, In, But, Node, Placed, Free, Tree, Closed}
-use Rattle.assignment.specs.First.{First}
+use Rattle.assignment.specs.First.{First, Settled}
 
 -- a table of numbers, and one of flags, as a function of the place
 abbrev pub entry : List ℕ → ℕ → ℕ
@@ -28,7 +28,7 @@ rowsOf n slots owners allowed = record {
 -- what the tables are asked
 pub record Tables (slots owners : List ℕ) : Type 0 where
   pub slot : (i : ℕ) → i < 1024 → entry slots i < 128
-  pub owner : (i : ℕ) → i < 1024 → entry owners i < 64
+  pub owner : (i : ℕ) → i < 1024 → entry owners i ≤ 64
 
 -- whether the place i is open and its slot was not reached
 unfoldable pub leads : List ℕ → List Bool → List Bool → ℕ → Bool
@@ -46,15 +46,19 @@ pub record FirstFrom (owners : List ℕ) (u j r : ℕ) : Type 0 where
   pub owned : r < 1024 → entry owners r ≡ u
   pub before : (k : ℕ) → j ≤ k → k < r → entry owners k ≡ u → ⊥
 
--- each node's first place, and after each place the next one of its owner
-pub record Chains (owners heads links : List ℕ) : Type 0 where
-  pub head : (u : ℕ) → u < 64 → FirstFrom owners u 0 (entry heads u)
-  pub link : (i : ℕ) → i < 1024 → FirstFrom owners (entry owners i) (i + 1) (entry links i)
+-- the places of one node follow those of another
+abbrev pub Sorted : List ℕ → Type 0
+Sorted owners = (i j : ℕ) → i ≤ j → j < 1024 → entry owners i ≤ entry owners j
+
+-- each node's first place; its other places follow
+pub record Rowed (n : ℕ) (owners heads : List ℕ) : Type 0 where
+  pub head : (u : ℕ) → u < n → FirstFrom owners u 0 (entry heads u)
+  pub sorted : Sorted owners
 
 -- the nodes of a queue, one after the other, and their places: those before the place i of the node f do not pass the test
-pub record Passed (owners : List ℕ) (t : ℕ → Bool) (queue : List ℕ) (count f i : ℕ) : Type 0 where
+pub record Passed (n : ℕ) (owners : List ℕ) (t : ℕ → Bool) (queue : List ℕ) (count f i : ℕ) : Type 0 where
   pub few : count ≤ 129
-  pub nodes : (g : ℕ) → g < count → entry queue g < 64
+  pub nodes : (g : ℕ) → g < count → entry queue g < n
   pub at-most : f ≤ count
   pub within : i ≤ 1024
   pub here : f < count → i < 1024 → entry owners i ≡ entry queue f
@@ -62,8 +66,8 @@ pub record Passed (owners : List ℕ) (t : ℕ → Bool) (queue : List ℕ) (cou
   pub past : f < count → (k : ℕ) → k < i → entry owners k ≡ entry queue f → t k ≡ false
 
 -- the next place that passes
-pub record Sighted (owners : List ℕ) (t : ℕ → Bool) (queue : List ℕ) (count f i : ℕ) : Type 0 where
-  pub passed : Passed owners t queue count f i
+pub record Sighted (n : ℕ) (owners : List ℕ) (t : ℕ → Bool) (queue : List ℕ) (count f i : ℕ) : Type 0 where
+  pub passed : Passed n owners t queue count f i
   pub passes : i < 1024 → (f < count) × (t i ≡ true)
   pub none : 1024 ≤ i → count ≤ f
 
@@ -116,6 +120,19 @@ pub record Placeable (n : ℕ) (slots owners : List ℕ) (allowed : List Bool) (
   pub yes : placed ≡ true → PlacedAll n slots owners allowed at holders
   pub no : placed ≡ false → Blocked (rowsOf n slots owners allowed) nodes seen
 
+-- the first place of u whose slot no node takes, or 1024
+pub record FirstFree (slots owners holders : List ℕ) (u r : ℕ) : Type 0 where
+  pub within : r ≤ 1024
+  pub owned : r < 1024 → entry owners r ≡ u
+  pub free : r < 1024 → 64 ≤ entry holders (entry slots r)
+  pub taken : (k : ℕ) → k < r → entry owners k ≡ u → entry holders (entry slots k) < 64
+
+-- the nodes below u are placed, each as low as those below it allow: no placing of all nodes that agrees on those has it lower
+pub record Taking (n : ℕ) (slots owners : List ℕ) (allowed : List Bool) (at holders : List ℕ) (u : ℕ) : Type 0 where
+  pub within : u ≤ n
+  pub all : PlacedAll u slots owners allowed at holders
+  pub settled : Settled (Placed (rowsOf n slots owners allowed) (Node (rowsOf n slots owners allowed))) (entry at) u
+
 -- before a search from the root: all nodes but the root have a place
 pub record Ready (n : ℕ) (slots owners : List ℕ) (allowed : List Bool) (root : ℕ) (at holders : List ℕ) : Type 0 where
   pub tables : Tables slots owners
@@ -143,10 +160,6 @@ pub record Answered (I : Rows) (root : ℕ) (at : List ℕ) (placed : Bool) (at�
   pub no : placed ≡ false → Ended I root nodes seen (entry at)
 
 -- ---- the smallest placing
-
--- the places of one node follow those of another
-abbrev pub Sorted : List ℕ → Type 0
-Sorted owners = (i j : ℕ) → i ≤ j → j < 1024 → entry owners i ≤ entry owners j
 
 -- a table of flags made of a test of the place
 pub record Flags (t : ℕ → Bool) (r : List Bool) : Type 0 where
@@ -182,3 +195,8 @@ Fixed n owners kept at i = (j : ℕ) → j < 1024 → In (flag kept) j → entry
 pub record Judged (n : ℕ) (slots owners : List ℕ) (kept : List Bool) (at holders : List ℕ) (i : ℕ) (attempt keep : Bool) : Type 0 where
   pub settled : attempt ≡ false → Visited Any n slots owners kept at i keep at holders
   pub doubtful : attempt ≡ true → In (flag kept) i × (entry owners i < n) × (i < entry at (entry owners i))
+
+-- the smallest placing of all nodes, or nodes that cannot all be placed
+pub record Answer (n : ℕ) (slots owners : List ℕ) (allowed : List Bool) (placed : Bool) (at : List ℕ) (nodes : List Bool) : Type 0 where
+  pub yes : placed ≡ true → First (Placed (rowsOf n slots owners allowed) (Node (rowsOf n slots owners allowed))) n (entry at)
+  pub no : placed ≡ false → (seen : List Bool) × Blocked (rowsOf n slots owners allowed) nodes seen

@@ -1,8 +1,7 @@
 // The public call.
-use crate::all::place_all;
-use crate::search::chain_places;
-use crate::settling::settle;
+use crate::smallest::smallest;
 use crate::tables::lay_out;
+use crate::tables::open_places;
 use instance::read;
 use instance::refusal::BUFFER_LENGTH;
 use instance::refusal::NO_MATCHING;
@@ -53,16 +52,13 @@ pub fn place(sheet: &[u8], out: &mut [u8]) -> u8
         return BUFFER_LENGTH;
     }
     let mut slots = [0u8; 1024];
-    let mut owners = [63u8; 1024];
-    let mut allowed = [false; 1024];
-    lay_out(sheet, n, &mut slots, &mut owners, &mut allowed);
-    let chain = chain_places(&owners);
-    let heads = chain.heads;
-    let links = chain.links;
-    let r = place_all(n, &slots, &owners, &heads, &links, &allowed);
+    let mut owners = [64u8; 1024];
+    lay_out(sheet, n, &mut slots, &mut owners);
+    let starts = layout.starts;
+    let allowed = open_places(layout.positions);
+    let r = smallest(n, &slots, &owners, &starts, &allowed);
     if r.placed {
-        let at = settle(n, &slots, &owners, &heads, &links, &allowed, r.placing);
-        let starts = layout.starts;
+        let at = r.at;
         write_positions(&at, &starts, out);
         return NONE;
     }

@@ -3,6 +3,7 @@ mod all;
 mod answer;
 mod search;
 mod settling;
+mod smallest;
 mod tables;
 
 pub use answer::place;

@@ -1,30 +1,23 @@
 // The search for a slot by alternating ways, and the shift along the way found.
 ghost use mathlib.Core.Path.{_≡_};
-ghost use Prim.Native.Nat.{ℕ, _≤_, _<_};
+ghost use Prim.Native.Nat.{ℕ, _+_, _≤_, _<_};
 ghost use Rattle.assignment.specs.Rows.{But, Node};
-ghost use Rattle.placing.specs.Tables.{Tables, rowsOf, leads, Chains, Passed, Sighted, Offered, Shifted, Ready, Answered, entry};
+ghost use Rattle.placing.specs.Tables.{Tables, rowsOf, leads, Sorted, FirstFrom, Rowed, Passed, Sighted, Offered, Shifted, Ready, Answered, entry};
 
-// For each node its first place, and for each place the next one of its owner; 1024 is none.
-pub(crate) struct Chain {
-    pub heads: [u16; 64],
-    pub links: [u16; 1024],
-}
-
-pub(crate) fn chain_places(owners: &[u8; 1024]) -> Chain
-    requires { ⌜ ((i : ℕ) → i < 1024 → entry (now owners) i < 64) ⌝ }
-    ensures { λ r. ⌜ Chains (now (owners .entry)) (r .heads) (r .links) ⌝ }
+// The next place of the owner of place `i`, and 1024 if there is none.
+pub(crate) fn next_of(owners: &[u8; 1024], i: usize) -> usize
+    requires { ⌜ Sorted (now owners) × (i < 1024) ⌝ }
+    ensures { λ r. ⌜ FirstFrom (now (owners .entry)) (entry (now (owners .entry)) i) (i + 1) r ⌝ }
 {
-    let mut heads = [1024u16; 64];
-    let mut links = [1024u16; 1024];
-    let mut i = 1024;
-    while 0 < i {
-        i -= 1;
-        let u = owners[i] as usize;
-        let next = heads[u];
-        links[i] = next;
-        heads[u] = i as u16;
+    let next = i + 1;
+    if 1024 <= next {
+        return 1024;
     }
-    Chain { heads, links }
+    let owner = owners[i];
+    if owners[next] == owner {
+        return next;
+    }
+    1024
 }
 
 // Whether the place is open and its slot was not reached.
@@ -37,13 +30,13 @@ fn leads_on(slots: &[u8; 1024], allowed: &[bool; 1024], seen: &[bool; 128], i: u
 }
 
 // The first place of the node `f` of the queue, and 1024 past the last.
-fn row_start(heads: &[u16; 64], queue: &[u8; 129], count: usize, f: usize) -> usize
-    requires { ⌜ (count ≤ 129) × ((g : ℕ) → g < count → entry (now queue) g < 64) × ((u : ℕ) → u < 64 → entry (now heads) u ≤ 1024) ⌝ }
+fn row_start(n: usize, heads: &[usize; 64], queue: &[u8; 129], count: usize, f: usize) -> usize
+    requires { ⌜ (n ≤ 64) × (count ≤ 129) × ((g : ℕ) → g < count → entry (now queue) g < n) × ((u : ℕ) → u < n → entry (now heads) u ≤ 1024) ⌝ }
     ensures { λ r. ⌜ (f < count → r ≡ entry (now (heads .entry)) (entry (now (queue .entry)) f)) × (count ≤ f → r ≡ 1024) ⌝ }
 {
     if f < count {
         let u = queue[f] as usize;
-        return heads[u] as usize;
+        return heads[u];
     }
     1024
 }
@@ -56,19 +49,19 @@ struct Sight {
 
 // The next place that leads on, and 1024 if there is none.
 fn next_place(
+    n: usize,
     slots: &[u8; 1024],
     owners: &[u8; 1024],
     allowed: &[bool; 1024],
-    heads: &[u16; 64],
-    links: &[u16; 1024],
+    heads: &[usize; 64],
     seen: &[bool; 128],
     queue: &[u8; 129],
     count: usize,
     from: Sight,
 ) -> Sight
-    requires { ⌜ Tables (now slots) (now owners) × Chains (now owners) (now heads) (now links) ⌝ }
-    requires { ⌜ Passed (now owners) (leads (now slots) (now allowed) (now seen)) (now queue) count (from .f) (from .i) ⌝ }
-    ensures { λ r. ⌜ Sighted (now (owners .entry)) (leads (now (slots .entry)) (now (allowed .entry)) (now (seen .entry))) (now (queue .entry)) count (r .f) (r .i) ⌝ }
+    requires { ⌜ Tables (now slots) (now owners) × Rowed n (now owners) (now heads) × (n ≤ 64) ⌝ }
+    requires { ⌜ Passed n (now owners) (leads (now slots) (now allowed) (now seen)) (now queue) count (from .f) (from .i) ⌝ }
+    ensures { λ r. ⌜ Sighted n (now (owners .entry)) (leads (now (slots .entry)) (now (allowed .entry)) (now (seen .entry))) (now (queue .entry)) count (r .f) (r .i) ⌝ }
 {
     let mut f = from.f;
     let mut i = from.i;
@@ -77,10 +70,10 @@ fn next_place(
             if leads_on(slots, allowed, seen, i) {
                 return Sight { f, i };
             }
-            i = links[i] as usize;
+            i = next_of(owners, i);
         } else {
             f += 1;
-            i = row_start(heads, queue, count, f);
+            i = row_start(n, heads, queue, count, f);
         }
     }
     Sight { f, i: 1024 }
@@ -140,13 +133,12 @@ pub(crate) fn extend(
     n: usize,
     slots: &[u8; 1024],
     owners: &[u8; 1024],
-    heads: &[u16; 64],
-    links: &[u16; 1024],
+    heads: &[usize; 64],
     allowed: &[bool; 1024],
     root: usize,
     start: Placing,
 ) -> Extended
-    requires { ⌜ Chains (now owners) (now heads) (now links) ⌝ }
+    requires { ⌜ Rowed n (now owners) (now heads) ⌝ }
     requires { ⌜ Ready n (now slots) (now owners) (now allowed) root (start .at) (start .holders) ⌝ }
     ensures { λ r. ⌜ Answered (rowsOf n (now (slots .entry)) (now (owners .entry)) (now (allowed .entry))) root (start .at) (r .placed) (r .placing .at) (r .placing .holders) (r .nodes) (r .seen) ⌝ }
 {
@@ -159,19 +151,9 @@ pub(crate) fn extend(
     let mut round = 1;
     nodes[root] = true;
     queue[0] = root as u8;
-    let first = heads[root] as usize;
+    let first = heads[root];
     let begin = Sight { f: 0, i: first };
-    let mut at = next_place(
-        slots,
-        owners,
-        allowed,
-        heads,
-        links,
-        &seen,
-        &queue,
-        1,
-        begin,
-    );
+    let mut at = next_place(n, slots, owners, allowed, heads, &seen, &queue, 1, begin);
     let mut i = at.i;
     while i < 1024 {
         let l = slots[i] as usize;
@@ -203,17 +185,7 @@ pub(crate) fn extend(
         ranks[h] = round as u8;
         queue[round] = holder;
         round += 1;
-        at = next_place(
-            slots,
-            owners,
-            allowed,
-            heads,
-            links,
-            &seen,
-            &queue,
-            round,
-            at,
-        );
+        at = next_place(n, slots, owners, allowed, heads, &seen, &queue, round, at);
         i = at.i;
     }
     Extended {

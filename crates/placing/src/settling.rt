@@ -2,30 +2,31 @@
 use crate::search::Extended;
 use crate::search::Placing;
 use crate::search::extend;
+use crate::search::next_of;
 ghost use mathlib.Core.Path.{_≡_};
 ghost use Prim.Native.Nat.{_≤_, _<_};
 ghost use lib.ListN.{length};
 ghost use Rattle.assignment.specs.Rows.{In, Node, Placed};
 ghost use Rattle.assignment.specs.First.{First};
-ghost use Rattle.placing.specs.Tables.{Tables, Chains, rowsOf, PlacedAll, Sorted, Flags, onlyAt, Any, Fixed, Tried, Judged, entry, flag};
+ghost use Rattle.placing.specs.Tables.{Tables, Rowed, rowsOf, PlacedAll, Flags, onlyAt, Any, Fixed, Tried, Judged, entry, flag};
 
 // The open places without those of the owner of place `i`, but for that one.
 fn keep_only(
+    n: usize,
     owners: &[u8; 1024],
-    heads: &[u16; 64],
-    links: &[u16; 1024],
+    heads: &[usize; 64],
     kept: &[bool; 1024],
     i: usize,
 ) -> [bool; 1024]
-    requires { ⌜ Chains (now owners) (now heads) (now links) × (i < 1024) × (entry (now owners) i < 64) × In (flag (now kept)) i × (length (now kept) ≡ 1024) ⌝ }
+    requires { ⌜ Rowed n (now owners) (now heads) × (i < 1024) × (entry (now owners) i < n) × (n ≤ 64) × In (flag (now kept)) i × (length (now kept) ≡ 1024) ⌝ }
     ensures { λ r. ⌜ Flags (onlyAt (now (owners .entry)) (now (kept .entry)) i) r ⌝ }
 {
     let mut only = *kept;
     let u = owners[i] as usize;
-    let mut j = heads[u] as usize;
+    let mut j = heads[u];
     while j < 1024 {
         only[j] = j == i;
-        j = links[j] as usize;
+        j = next_of(owners, j);
     }
     only
 }
@@ -35,18 +36,17 @@ fn try_place(
     n: usize,
     slots: &[u8; 1024],
     owners: &[u8; 1024],
-    heads: &[u16; 64],
-    links: &[u16; 1024],
+    heads: &[usize; 64],
     kept: &[bool; 1024],
     start: Placing,
     i: usize,
 ) -> Extended
-    requires { ⌜ Tables (now slots) (now owners) × Chains (now owners) (now heads) (now links) × (n ≤ 64) ⌝ }
+    requires { ⌜ Tables (now slots) (now owners) × Rowed n (now owners) (now heads) × (n ≤ 64) ⌝ }
     requires { ⌜ (i < 1024) × In (flag (now kept)) i × (entry (now owners) i < n) × (length (now kept) ≡ 1024) ⌝ }
     requires { ⌜ PlacedAll n (now slots) (now owners) (now kept) (start .at) (start .holders) ⌝ }
     ensures { λ r. ⌜ Tried Any n (now (slots .entry)) (now (owners .entry)) (now (kept .entry)) i (r .placed) (r .placing .at) (r .placing .holders) ⌝ }
 {
-    let only = keep_only(owners, heads, links, kept, i);
+    let only = keep_only(n, owners, heads, kept, i);
     let mut at = start.at;
     let mut holders = start.holders;
     let u = owners[i] as usize;
@@ -67,7 +67,7 @@ fn try_place(
         };
     }
     let root = holder as usize;
-    extend(n, slots, owners, heads, links, &only, root, moved)
+    extend(n, slots, owners, heads, &only, root, moved)
 }
 
 // Whether a node may move to a place, and if not, whether the place stays open.
@@ -138,12 +138,11 @@ pub(crate) fn settle(
     n: usize,
     slots: &[u8; 1024],
     owners: &[u8; 1024],
-    heads: &[u16; 64],
-    links: &[u16; 1024],
+    heads: &[usize; 64],
     allowed: &[bool; 1024],
     start: Placing,
 ) -> [u16; 64]
-    requires { ⌜ Tables (now slots) (now owners) × Chains (now owners) (now heads) (now links) × (n ≤ 64) × Sorted (now owners) × (length (now allowed) ≡ 1024) ⌝ }
+    requires { ⌜ Tables (now slots) (now owners) × Rowed n (now owners) (now heads) × (n ≤ 64) × (length (now allowed) ≡ 1024) ⌝ }
     requires { ⌜ PlacedAll n (now slots) (now owners) (now allowed) (start .at) (start .holders) ⌝ }
     ensures { λ r. ⌜ First (Placed (rowsOf n (now (slots .entry)) (now (owners .entry)) (now (allowed .entry))) (Node (rowsOf n (now (slots .entry)) (now (owners .entry)) (now (allowed .entry))))) n (entry r) ⌝ }
 {
@@ -155,16 +154,7 @@ pub(crate) fn settle(
         let next = i + 1;
         let v = judge(n, slots, owners, &kept, &at, &holders, i);
         if v.attempt {
-            let r = try_place(
-                n,
-                slots,
-                owners,
-                heads,
-                links,
-                &kept,
-                Placing { at, holders },
-                i,
-            );
+            let r = try_place(n, slots, owners, heads, &kept, Placing { at, holders }, i);
             kept[i] = r.placed;
             if r.placed {
                 let moved = r.placing;

@@ -46,6 +46,7 @@ fn print_all(tally: Tally) {
     print_op(b"sweep", tally, ops::SWEEP);
     print_op(b"show", tally, ops::SHOW);
     print_op(b"read", tally, ops::READ);
+    print_op(b"place", tally, ops::PLACE);
     io::write_all(STDOUT_FILENO, b"cases ");
     io::print_decimal(STDOUT_FILENO, tally.cases);
     io::write_all(STDOUT_FILENO, b"\n");

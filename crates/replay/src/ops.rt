@@ -2,7 +2,7 @@
 // file, of which `at` is the place of the call's parameters.
 //
 // The state hash is compared after the calls that have buffers, and after each resize and poke. A show or a read has
-// none to change, and a sweep its own: there it is not compared.
+// none to change, and a sweep or a placing its own: there it is not compared.
 use crate::calls;
 use crate::calls::Outcome;
 use crate::calls::state_agrees;
@@ -19,6 +19,7 @@ use crate::state::State;
 use crate::tally::Verdict;
 use crate::tally::judged;
 use instance::Layout;
+use instance::refusal::NO_MATCHING;
 
 pub const OPEN: u8 = 1;
 
@@ -32,6 +33,8 @@ pub const SHOW: u8 = 5;
 
 pub const READ: u8 = 6;
 
+pub const PLACE: u8 = 7;
+
 const RESIZE: u8 = 20;
 
 const POKE: u8 = 21;
@@ -43,6 +46,7 @@ pub fn judge(file: &[u8], op: u8, at: usize, sheet: &[u8], state: State) -> Outc
         SHOW => unchanged(state, judged(show_agrees(file, at, sheet))),
         READ => unchanged(state, judged(read_agrees(file, at, sheet))),
         SWEEP => unchanged(state, sweep_judged(file, at, sheet)),
+        PLACE => unchanged(state, place_judged(file, at, sheet)),
         RESIZE => changed(file, after(file, at, 5), state::resized(file, at, state)),
         POKE => changed(file, after(file, at, 13), state::poked(file, at, state)),
         _ => {
@@ -83,7 +87,7 @@ fn past_parameters(file: &[u8], op: u8, at: usize) -> usize {
         OPEN | READ => at,
         RUN => past_bytes(file, after(file, at, 8)),
         REPORT | SWEEP => after(file, at, 8),
-        SHOW => after(file, at, 4),
+        SHOW | PLACE => after(file, at, 4),
         RESIZE => after(file, at, 5),
         POKE => after(file, at, 13),
         _ => LOST,
@@ -138,6 +142,57 @@ fn sweep_judged(file: &[u8], at: usize, sheet: &[u8]) -> Verdict {
         return Verdict::Skipped;
     }
     judged(sweep_agrees(file, after(file, at, 8), sheet, byte_at(file, at), length))
+}
+
+// The room for a placing.
+const PLACE_ROOM: usize = 64;
+
+// Places the nodes in the first bytes of a buffer, as many as are lent.
+fn place_lent(sheet: &[u8], out: &mut [u8], length: usize) -> u8 {
+    let length = calls::at_most(length, out.len());
+    placing::place(sheet, &mut out[..length])
+}
+
+// Whether the bytes name a set of nodes that has a member: each is 0 or 1, and one of them is 1.
+fn names_nodes(bytes: &[u8]) -> bool {
+    let mut some = false;
+    let mut i = 0;
+    while i < bytes.len() {
+        let byte = bytes[i];
+        if 1 < byte {
+            return false;
+        }
+        some = some | (byte == 1);
+        i += 1;
+    }
+    some
+}
+
+// The lent bytes. Where no matching exists it is left open which set of nodes they name, and the file has no hash of them.
+fn placed_agrees(file: &[u8], at: usize, refusal: u8, lent: &[u8]) -> bool {
+    if refusal == NO_MATCHING {
+        return names_nodes(lent);
+    }
+    number_is(file, at, 9, hash::of_bytes(lent))
+}
+
+// Place: the refusal, and the lent bytes, which were A5 before, as the output.
+fn place_agrees(file: &[u8], at: usize, sheet: &[u8], length: usize) -> bool {
+    let mut out = [0xA5u8; 64];
+    let refusal = place_lent(sheet, &mut out, length);
+    let lent = calls::at_most(length, PLACE_ROOM);
+    byte_at(file, at) == 1
+        && number_is(file, at, 1, refusal as u64)
+        && placed_agrees(file, at, refusal, &out[..lent])
+}
+
+// A buffer longer than there is room for is skipped.
+fn place_judged(file: &[u8], at: usize, sheet: &[u8]) -> Verdict {
+    let length = word_at(file, at) as usize;
+    if PLACE_ROOM < length {
+        return Verdict::Skipped;
+    }
+    judged(place_agrees(file, after(file, at, 4), sheet, length))
 }
 
 // Read: the refusal and the counts, and where the nodes' cells and the edges' tables begin as the output.

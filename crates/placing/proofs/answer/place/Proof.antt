@@ -14,9 +14,9 @@ use Rattle.instance.proofs.LaidOut.{LaidOut, refusal-is, laid-out}
 use Rattle.assignment.specs.Rows.{Node, Placed as PlacedIn}
 use Rattle.assignment.specs.First.{First}
 use Rattle.placing.specs.Tables.{entry, flag, rowsOf, Blocked}
-use Rattle.placing.specs.Laid.{Filled}
+use Rattle.placing.specs.Laid.{Filled, Opens}
 use Rattle.placing.specs.Placing.{Placed}
-use Rattle.placing.proofs.Laying.{filled-none, filled-sorted}
+use Rattle.placing.proofs.Laying.{filled-none, filled-rowed, filled-open}
 use Rattle.placing.proofs.Promised.{alike, unread, unfit, settled, obstructed}
 use Rattle.placing.proofs.Answers.{place-inside, first-listed, blocked-unlisted, blocked-obstruction}
 use Rattle.placing.proofs.answer.place.Statement.{statement}
@@ -45,27 +45,30 @@ module _ (k : tie.Else2) where
   long = k .if2 .left ∙ laid (k .before) .nodes
 
 -- the tables
-module _ (c : tie.After-lay-out) where
-  abbrev fit : tie.Else2
-  fit = c .before .before .before .before
-
+module _ (c : tie.After-open-places) where
   abbrev read : tie.Else1
-  read = fit .before
+  read = c .before .before .before .before .before .before
+
+  abbrev fit : tie.Else2
+  fit = c .before .before .before .before .before
 
   abbrev I : Instance
   I = instanceOf (s read)
 
   abbrev slots : List ℕ
-  slots = c .lay-out .last .1 .1 .0
+  slots = c .before .before .lay-out .last .1 .1 .0
 
   abbrev owners : List ℕ
-  owners = c .lay-out .last .1 .1 .1 .0
+  owners = c .before .before .lay-out .last .1 .1 .1 .0
 
   abbrev allowed : List Bool
-  allowed = c .lay-out .last .1 .1 .1 .1 .0
+  allowed = c .open-places .result
 
-  filled : Filled I (nodeCells I) slots owners allowed
-  filled = c .lay-out .ensures
+  filled : Filled I (nodeCells I) slots owners
+  filled = c .before .before .lay-out .ensures
+
+  opens : Opens (nodeCells I) allowed
+  opens = subst (λ k. Opens k allowed) (laid read .positions) (c .open-places .ensures)
 
 returns : tie.Need-returns
 returns c =
@@ -77,40 +80,28 @@ returns-2 : tie.Need-returns-2
 returns-2 c = let p = c .before in unfit (s p) (out p) (unrefused p) (λ e. c .if2 .taken (e ∙ sym (laid p .nodes)))
 
 lay-out-requires : tie.Need-lay-out-requires
-lay-out-requires c κs = let k = c .before .before .before in ((unrefused (k .before), laid (k .before) .nodes), filled-none _)
+lay-out-requires c κs = let k = c .before .before in ((unrefused (k .before), laid (k .before) .nodes), filled-none _)
 
-place-all-requires : tie.Need-place-all-requires
-place-all-requires c κs =
-    let h = c .before .before .before .before .before .before .before in
-    let t = h .before .before in
-    (filled t .tables, h .chain-places .ensures, laid (read t) .nodesFew)
+open-places-requires : tie.Need-open-places-requires
+open-places-requires c κs = laid (c .before .before .before .before .before) .positionsFew
 
-settle-requires : tie.Need-settle-requires
-settle-requires c κs =
-    let r = c .before .before .before .before .before .before in
-    let h = r .before .before .before .before .before .before .before .before in
-    let t = h .before .before in
-    let f = filled t in (
-      (f .tables, h .chain-places .ensures, laid (read t) .nodesFew, filled-sorted (laid (read t) .sound .proper) f, f .size-allowed),
-      r .place-all .ensures .yes (c .before .before .before .before .before .if3 .taken),
-    )
+smallest-requires : tie.Need-smallest-requires
+smallest-requires c κs =
+    let t = c .before .before .before .before in
+    let l = laid (read t) in
+    let p = l .sound .proper in
+    ((filled t .tables, filled-rowed p (filled t) (l .nodes) (l .starts), l .nodesFew, opens t .size), filled-open p (filled t) (l .nodesFew) (opens t))
 
 -- all nodes are placed
-module _ (c : tie.After-settle) where
-  abbrev tables : tie.After-lay-out
-  tables = c .before .before .before .before .before .before .before .before .before .before .before .before .before .before .before .before .before
+module _ (c : tie.Then3) where
+  abbrev tables : tie.After-open-places
+  tables = c .before .before .before .before .before .before
 
   abbrev at : ℕ → ℕ
-  at = entry (c .settle .result)
+  at = entry (c .before .smallest .result .at)
 
-  -- a node's place is one of its own
-  inside : (u : ℕ) → u < I tables .nodeCount → (first (I tables) u ≤ at u) × (at u < first (I tables) u + I tables .degree u) × (at u < 1024)
-  inside u h =
-      let m = c .settle .ensures .one in
-      let e = laid (read tables) .nodes in
-      let g : (u : ℕ) → u < I tables .nodeCount → u < read tables .before .before .read .result .nodes = (λ w k. omega arith) in
-      let (a, b) = place-inside (laid (read tables) .sound .proper) (filled tables) (subst (λ n. PlacedIn (rowsOf n (slots tables) (owners tables) (allowed tables)) (Node (rowsOf n (slots tables) (owners tables) (allowed tables))) at) e m) u h in
-      (a, b, m .allowed u (g u h) .0)
+  placed : First (PlacedIn (rowsOf (I tables .nodeCount) (slots tables) (owners tables) (allowed tables)) (Node (rowsOf (I tables .nodeCount) (slots tables) (owners tables) (allowed tables)))) (I tables .nodeCount) at
+  placed = subst (λ n. First (PlacedIn (rowsOf n (slots tables) (owners tables) (allowed tables)) (Node (rowsOf n (slots tables) (owners tables) (allowed tables)))) n at) (laid (read tables) .nodes) (c .before .smallest .ensures .yes (c .if3 .taken))
 
 write-positions-requires : tie.Need-write-positions-requires
 write-positions-requires c κs =
@@ -121,7 +112,8 @@ write-positions-requires c κs =
       omega (arith, l .sound .proper .nodesFew),
       λ u h.
           let g : u < I k .nodeCount = omega arith in
-          let (a, b, d) = inside t u g in
+          let (a, b) = place-inside (l .sound .proper) (filled k) (opens k) (placed t .one) u g in
+          let d = placed t .one .allowed u g .0 in
           let e = l .starts u g in
           let f = l .sound .proper .few u g in
           (omega arith, omega arith, d),
@@ -134,14 +126,15 @@ returns-3 c =
     let k = tables t in
     let l = laid (read k) in
     let z = long (fit k) in
-    let (rest, q) = first-listed (l .sound .proper) (filled k) (subst (λ n. First (PlacedIn (rowsOf n (slots k) (owners k) (allowed k)) (Node (rowsOf n (slots k) (owners k) (allowed k)))) n (at t)) (l .nodes) (t .settle .ensures)) in
-    let e = w .write-positions .ensures ∙ ap (λ (n : ℕ). tabulate n (λ u. at t u - entry (read k .before .before .read .result .starts) u)) z
-    ∙ alike (I k .nodeCount) (λ u. at t u - entry (read k .before .before .read .result .starts) u) (λ u. at t u - first (I k) u) (λ u h. ap (λ (j : ℕ). at t u - j) (l .starts u h)) in
+    let starts = read k .before .before .read .result .starts in
+    let (rest, q) = first-listed (l .sound .proper) (filled k) (opens k) (placed t) in
+    let e = w .write-positions .ensures ∙ ap (λ (n : ℕ). tabulate n (λ u. at t u - entry starts u)) z
+    ∙ alike (I k .nodeCount) (λ u. at t u - entry starts u) (λ u. at t u - first (I k) u) (λ u h. ap (λ (j : ℕ). at t u - j) (l .starts u h)) in
     subst (λ x. Placed (s (read k)) (out (read k)) 0 x) (sym e) (settled (s (read k)) (out (read k)) (unrefused (read k)) z q)
 
 write-members-requires : tie.Need-write-members-requires
 write-members-requires c κs =
-    let k = c .before .before .before .before .before .before .before .before .before .before .before .before .before .before in
+    let k = c .before .before .before .before .before .before .before .before .before in
     let z = long (fit k) in
     omega (arith, laid (read k) .sound .proper .nodesFew)
 
@@ -149,14 +142,15 @@ returns-4 : tie.Need-returns-4
 returns-4 c =
     let w = c .before .before in
     let d = w .before .before .before .before in
-    let k = d .before .before .before .before .before .before .before .before .before .before .before in
+    let k = d .before .before .before .before .before .before in
     let l = laid (read k) in
     let z = long (fit k) in
-    let nodes = d .before .place-all .result .nodes in
-    let b = subst (λ n. Blocked (rowsOf n (slots k) (owners k) (allowed k)) nodes (d .before .place-all .result .seen)) (l .nodes) (d .before .place-all .ensures .no (d .if3 .left)) in
+    let nodes = d .before .smallest .result .nodes in
+    let (seen, b) = d .before .smallest .ensures .no (d .if3 .left) in
+    let b′ = subst (λ n. Blocked (rowsOf n (slots k) (owners k) (allowed k)) nodes seen) (l .nodes) b in
     let e = w .write-members .ensures ∙ ap (λ (n : ℕ). tabulate n (λ u. cond (flag nodes u) 1 0)) z in
     subst (λ x. Placed (s (read k)) (out (read k)) 16 x) (sym e)
-    (obstructed (s (read k)) (out (read k)) (unrefused (read k)) z (blocked-unlisted (l .sound .proper) (filled k) b) (blocked-obstruction (l .sound .proper) (filled k) b))
+    (obstructed (s (read k)) (out (read k)) (unrefused (read k)) z (blocked-unlisted (l .sound .proper) (filled k) (opens k) b′) (blocked-obstruction (l .sound .proper) (filled k) (opens k) b′))
 
 pub place-spec : {M : Type 1} → statement M
 place-spec =
@@ -166,9 +160,8 @@ place-spec =
     returns
     returns-2
     lay-out-requires
-    (λ c κs. search needs)
-    place-all-requires
-    settle-requires
+    open-places-requires
+    smallest-requires
     write-positions-requires
     (λ c. search needs)
     returns-3

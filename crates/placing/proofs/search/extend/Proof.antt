@@ -9,16 +9,16 @@ use denote.Ref.{now}
 use Rattle.assignment.proofs.Counts.{differ}
 use Rattle.placing.specs.Tables.{entry, leads, Passed}
 use Rattle.placing.proofs.Queues.{Queued, passed-root, queued-root, queued-next, passed-more, queued-more}
-use Rattle.placing.proofs.Searching.{Searching, searching-none, searching-more, searching-offered, searching-ended, new-slot, round-most}
+use Rattle.placing.proofs.Searching.{Searching, searching-none, searching-more, searching-offered, searching-ended, new-slot, new-node, round-most}
 use Rattle.placing.proofs.search.extend.Statement.{statement}
 use Rattle.placing.proofs.search.extend.Tie as tie
 
 abbrev Inv-loop : tie.InvT-loop
-Inv-loop n slots owners heads links allowed root start holders nodes₀ seen₀ reach₀ ranks₀ queue₀ round₀ first at₀ i₀ nodes seen reach ranks queue round at i =
-    Searching n slots owners allowed root (start .at) holders nodes seen reach ranks round i × Queued slots owners allowed nodes seen queue round (at .f) i × (i ≡ at .i)
+Inv-loop n slots owners heads allowed root start holders nodes₀ seen₀ reach₀ ranks₀ queue₀ round₀ first at₀ i₀ nodes seen reach ranks queue round at i =
+    Searching n slots owners allowed root (start .at) holders nodes seen reach ranks round i × Queued n slots owners allowed nodes seen queue round (at .f) i × (i ≡ at .i)
 
 abbrev μ-loop : tie.MeasureT-loop
-μ-loop n slots owners heads links allowed root start holders nodes₀ seen₀ reach₀ ranks₀ queue₀ round₀ first at₀ i₀ nodes seen reach ranks queue round at i =
+μ-loop n slots owners heads allowed root start holders nodes₀ seen₀ reach₀ ranks₀ queue₀ round₀ first at₀ i₀ nodes seen reach ranks queue round at i =
     129 - round
 
 root : (c : tie.Start Inv-loop μ-loop) → c .args .root < 64
@@ -46,6 +46,9 @@ module _ (t : tie.Else1 Inv-loop μ-loop) where
   taken : entry (entered (looking t) .args .start .holders) (entry (now (entered (looking t) .args .slots)) (looking t .loop .i)) < 64
   taken = omega (arith, t .if1 .left)
 
+  node : holder < entered (looking t) .args .n
+  node = new-node (looking t .loop .inv .0) (t .before .before .loop-test .taken) taken
+
   most : looking t .loop .round ≤ 128
   most = round-most (looking t .loop .inv .0) (t .before .before .loop-test .taken)
 
@@ -64,11 +67,8 @@ mul-first c = omega (arith, root (c .before))
 element-copy-out-first : tie.Need-element-copy-out-first Inv-loop μ-loop
 element-copy-out-first c = root (c .before)
 
-cast-first : tie.Need-cast-first Inv-loop μ-loop
-cast-first c = let q = c .before .before in omega (arith, q .pre .0 .head (q .args .root) (root q) .within)
-
 next-place-requires : tie.Need-next-place-requires Inv-loop μ-loop
-next-place-requires c κs = let q = c .before .before .before .before in ((q .pre .1 .tables, q .pre .0), passed-root (q .pre .0) _ (q .args .root) (root q))
+next-place-requires c κs = let q = c .before .before .before .before in ((q .pre .1 .tables, q .pre .0, q .pre .1 .few), passed-root (q .pre .0) _ (q .args .root) (q .pre .1 .node))
 
 loop-holds : tie.Need-loop-holds Inv-loop μ-loop
 loop-holds c =
@@ -128,9 +128,9 @@ next-place-requires-2 c κs =
     let t = c .before .before in
     let h = looking t .loop in
     let q = entered (looking t) in (
-      (q .pre .1 .tables, q .pre .0),
-      subst (λ j. Passed (now (q .args .owners)) (leads (now (q .args .slots)) (now (q .args .allowed)) (set (h .seen) (l t) true)) (set (h .queue) (h .round) (holder t)) (h .round + 1) (h .at .f) j) (h .inv .2)
-          (passed-more (h .inv .1) (t .before .before .loop-test .taken) (holder t) (l t) (taken t) (h .inv .0 .size-nodes) (h .inv .0 .size-seen) (slot (t .before .before)) (most t)),
+      (q .pre .1 .tables, q .pre .0, q .pre .1 .few),
+      subst (λ j. Passed (q .args .n) (now (q .args .owners)) (leads (now (q .args .slots)) (now (q .args .allowed)) (set (h .seen) (l t) true)) (set (h .queue) (h .round) (holder t)) (h .round + 1) (h .at .f) j) (h .inv .2)
+          (passed-more (h .inv .1) (t .before .before .loop-test .taken) (holder t) (l t) (node t) (taken t) (h .inv .0 .size-nodes) (h .inv .0 .size-seen) (slot (t .before .before)) (most t)),
     )
 
 loop-less : tie.Need-loop-less Inv-loop μ-loop
@@ -141,7 +141,7 @@ loop-again c =
     let t = c .before .before .before in
     let v = looking t .loop .inv in
     let a = t .before .before .loop-test .taken in
-    let d = queued-more (v .1) a (holder t) (l t) (taken t) (v .0 .size-nodes) (v .0 .size-seen) (slot (t .before .before)) (most t) (c .next-place2 .ensures) in
+    let d = queued-more (v .1) a (holder t) (l t) (node t) (taken t) (v .0 .size-nodes) (v .0 .size-seen) (slot (t .before .before)) (most t) (c .next-place2 .ensures) in
     (searching-more (v .0) a (taken t) (queued-next d), d, refl)
 
 returns-2 : tie.Need-returns-2 Inv-loop μ-loop
@@ -158,7 +158,6 @@ extend-spec =
     array-write-queue
     mul-first
     element-copy-out-first
-    cast-first
     next-place-requires
     loop-holds
     element-copy-out-l

@@ -1,5 +1,5 @@
 -- `next_place` meets its contract: the places so far do not lead on.
-use Prim.Native.Nat.{ℕ, _+_, _*_, _-_, _≤_, _<_}
+use Prim.Native.Nat.{_+_, _*_, _-_}
 use mathlib.Core.Path.{_≡_, sym, _∙_}
 use native.Mathlib.Omega.{arith}
 use Rattle.placing.specs.Tables.{leads, Passed}
@@ -8,10 +8,10 @@ use Rattle.placing.proofs.search.next_place.Statement.{statement}
 use Rattle.placing.proofs.search.next_place.Tie as tie
 
 abbrev Inv-loop : tie.InvT-loop
-Inv-loop slots owners allowed heads links seen queue count f₀ i₀ f i = Passed owners (leads slots allowed seen) queue count f i
+Inv-loop n slots owners allowed heads seen queue count f₀ i₀ f i = Passed n owners (leads slots allowed seen) queue count f i
 
 abbrev μ-loop : tie.MeasureT-loop
-μ-loop slots owners allowed heads links seen queue count f₀ i₀ f i = (count - f) * 1025 + (1024 - i)
+μ-loop n slots owners allowed heads seen queue count f₀ i₀ f i = (count - f) * 1025 + (1024 - i)
 
 loop-holds : tie.Need-loop-holds Inv-loop μ-loop
 loop-holds c = c .pre .1
@@ -24,30 +24,23 @@ returns c =
     let t = c .before .before .before .before in
     record { passed = t .loop .inv; passes = λ _. (c .before .before .before .loop-test .taken, sym (c .before .leads-on .ensures) ∙ c .if2 .taken); none = λ h. let x = c .before .before .if1 .taken in absurd (omega arith) }
 
-mul-i : tie.Need-mul-i Inv-loop μ-loop
-mul-i c = omega (arith, c .before .before .if1 .taken)
-
-element-copy-out-i : tie.Need-element-copy-out-i Inv-loop μ-loop
-element-copy-out-i c = c .before .before .if1 .taken
-
-cast-i : tie.Need-cast-i Inv-loop μ-loop
-cast-i c = let t = c .before .before .before .before .before in omega (arith, t .before .pre .0 .1 .link (t .loop .i) (c .before .before .before .if1 .taken) .within)
+next-of-requires : tie.Need-next-of-requires Inv-loop μ-loop
+next-of-requires c κs = (c .before .before .before .before .before .pre .0 .1 .sorted, c .before .before .if1 .taken)
 
 loop-less : tie.Need-loop-less Inv-loop μ-loop
-loop-less c =
-    let t = c .before .before .before .before .before in
-    let l = t .before .pre .0 .1 .link (t .loop .i) (c .before .before .before .if1 .taken) in
-    let x = l .from in let y = l .within in
-    omega arith
+loop-less c = let l = c .next-of .ensures in omega (arith, c .before .before .before .if1 .taken, l .from, l .within)
 
 loop-again : tie.Need-loop-again Inv-loop μ-loop
-loop-again c = passed-on (c .before .before .before .before .before .before .pre .0 .1) (c .before .before .before .before .before .loop .inv) (c .before .before .before .before .loop-test .taken) (c .before .before .before .if1 .taken) (sym (c .before .before .leads-on .ensures) ∙ c .before .if2 .left)
+loop-again c =
+    let k = c .before .before .before in
+    let t = k .before .before in
+    passed-on (t .before .pre .0 .1) (t .loop .inv) (k .before .loop-test .taken) (k .if1 .taken) (sym (c .before .before .leads-on .ensures) ∙ c .before .if2 .left) (c .next-of .ensures)
 
 add-f : tie.Need-add-f Inv-loop μ-loop
 add-f c = let x = c .before .before .loop .inv .few in let y = c .before .loop-test .taken in omega arith
 
 row-start-requires : tie.Need-row-start-requires Inv-loop μ-loop
-row-start-requires c κs = (c .before .before .loop .inv .few, c .before .before .loop .inv .nodes, λ u h. c .before .before .before .pre .0 .1 .head u h .within)
+row-start-requires c κs = let t = c .before .before in (t .before .pre .0 .2, t .loop .inv .few, t .loop .inv .nodes, λ u h. t .before .pre .0 .1 .head u h .within)
 
 loop-less-2 : tie.Need-loop-less-2 Inv-loop μ-loop
 loop-less-2 c = let y = c .before .before .loop-test .taken in let x = c .before .if1 .left in omega arith
@@ -67,9 +60,7 @@ next-place-spec =
     loop-holds
     leads-on-requires
     returns
-    mul-i
-    element-copy-out-i
-    cast-i
+    next-of-requires
     loop-less
     loop-again
     add-f

@@ -9,17 +9,17 @@ use Rattle.placing.proofs.settling.settle.Statement.{statement}
 use Rattle.placing.proofs.settling.settle.Tie as tie
 
 abbrev Inv-loop : tie.InvT-loop
-Inv-loop n slots owners heads links allowed kept₀ at₀ holders₀ i₀ kept at holders i = Settling Any n slots owners allowed kept at holders i
+Inv-loop n slots owners heads allowed kept₀ at₀ holders₀ i₀ kept at holders i = Settling Any n slots owners allowed kept at holders i
 
 abbrev μ-loop : tie.MeasureT-loop
-μ-loop n slots owners heads links allowed kept₀ at₀ holders₀ i₀ kept at holders i = 1024 - i
+μ-loop n slots owners heads allowed kept₀ at₀ holders₀ i₀ kept at holders i = 1024 - i
 
 -- a turn in which a place is tried: the turn's start, and the test
 abbrev turn : tie.After-judge Inv-loop μ-loop → tie.In-loop Inv-loop μ-loop
 turn c = c .before .before .before .before
 
 loop-holds : tie.Need-loop-holds Inv-loop μ-loop
-loop-holds c = let q = c .before .before .before .pre in settling-none (q .0 .0) (q .0 .2) (q .0 .3) (q .0 .4) (q .1) tt
+loop-holds c = let q = c .before .before .before .pre in settling-none (q .0 .0) (q .0 .2) (q .0 .1 .sorted) (q .0 .3) (q .1) tt
 
 add-next : tie.Need-add-next Inv-loop μ-loop
 add-next c = omega (arith, c .loop-test .taken)

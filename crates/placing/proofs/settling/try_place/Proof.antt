@@ -28,7 +28,7 @@ abbrev asked : tie.After-l → tie.After-keep-only
 asked c = c .before .before .before .before .before
 
 keep-only-requires : tie.Need-keep-only-requires
-keep-only-requires c κs = let q = c .pre in (q .0 .1, q .1 .0 .0, owner c, q .1 .0 .1, q .1 .0 .3)
+keep-only-requires c κs = let q = c .pre in (q .0 .1, q .1 .0 .0, q .1 .0 .2, q .0 .2, q .1 .0 .1, q .1 .0 .3)
 
 element-copy-out-u : tie.Need-element-copy-out-u
 element-copy-out-u c = search needs

@@ -18,10 +18,10 @@ use Rattle.placing.proofs.tables.lay_row.Statement.{statement}
 use Rattle.placing.proofs.tables.lay_row.Tie as tie
 
 abbrev Inv-loop : tie.InvT-loop
-Inv-loop sheet n u start slots₀ owners₀ allowed₀ owner past i₀ slots owners allowed i = (start ≤ i) × (i ≤ past) × Filled (instanceOf sheet) i slots owners allowed
+Inv-loop sheet n u start slots₀ owners₀ owner past i₀ slots owners i = (start ≤ i) × (i ≤ past) × Filled (instanceOf sheet) i slots owners
 
 abbrev μ-loop : tie.MeasureT-loop
-μ-loop sheet n u start slots₀ owners₀ allowed₀ owner past i₀ slots owners allowed i = past - i
+μ-loop sheet n u start slots₀ owners₀ owner past i₀ slots owners i = past - i
 
 -- of the sheet and the node
 module _ (q : tie.Start Inv-loop μ-loop) where
@@ -93,9 +93,6 @@ element-write-slots c = few (c .before .before)
 element-write-owners : tie.Need-element-write-owners Inv-loop μ-loop
 element-write-owners c = few (c .before .before)
 
-element-write-allowed : tie.Need-element-write-allowed Inv-loop μ-loop
-element-write-allowed c = few (c .before .before)
-
 add-i : tie.Need-add-i Inv-loop μ-loop
 add-i c = omega (arith, few (c .before .before))
 
@@ -118,7 +115,7 @@ returns c =
     let q = t .before .before .before .before in
     let e : t .loop .i ≡ q .args .start + t .before .wide .result = omega (arith, c .loop-test .left, t .loop .inv .1) in (
       omega (arith, degree (t .before), q .pre .0 .3, offset-more (I q .degree) (q .args .u)),
-      subst (λ i. Filled (I q) i (t .loop .slots) (t .loop .owners) (t .loop .allowed)) e (t .loop .inv .2),
+      subst (λ i. Filled (I q) i (t .loop .slots) (t .loop .owners)) e (t .loop .inv .2),
     )
 
 pub lay-row-spec : {M : Type 1} → statement M
@@ -137,7 +134,6 @@ lay-row-spec =
     slot-of-requires
     element-write-slots
     element-write-owners
-    element-write-allowed
     add-i
     loop-less
     loop-again
