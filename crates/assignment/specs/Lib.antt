@@ -1,3 +1,3 @@
--- Nodes that each take a slot, none taken twice: placings, what shows that there is none, and which is the first.
+-- Nodes that each take a slot, none taken twice: placings, and which is the first.
 pub mod Rows
 pub mod First

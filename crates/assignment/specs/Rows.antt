@@ -53,25 +53,3 @@ module _ (I : Rows) where
   -- no node of D takes the slot l
   abbrev pub Free : (ℕ → Type 0) → (ℕ → ℕ) → ℕ → Type 0
   Free D p l = (w : ℕ) → D w → I .slot w (p w) ≡ l → ⊥
-
-  -- ---- what a search from `root`, which has no position yet, has reached
-
-  -- z is reached by way of y: y may take the slot that z has, and was reached earlier
-  pub record Step (rank : ℕ → ℕ) (R : ℕ → Bool) (p : ℕ → ℕ) (z : ℕ) : Type 0 where
-    pub from : ℕ
-    pub via : ℕ
-    pub reached : In R from
-    pub earlier : rank from < rank z
-    pub allowed : I .may from via
-    pub meets : I .slot from via ≡ I .slot z (p z)
-
-  pub record Tree (rank : ℕ → ℕ) (root : ℕ) (R : ℕ → Bool) (p : ℕ → ℕ) : Type 0 where
-    pub root-in : In R root
-    pub step : (z : ℕ) → In R z → (z ≡ root → ⊥) → Step rank R p z
-
-  -- it ends with nothing new: R's nodes may take slots of T only, and each slot of T is taken by a node of R
-  pub record Closed (root : ℕ) (R T : ℕ → Bool) (p : ℕ → ℕ) : Type 0 where
-    pub root-in : In R root
-    pub nodes : (u : ℕ) → In R u → Node u
-    pub exits : (u k : ℕ) → In R u → I .may u k → In T (I .slot u k)
-    pub held : (l : ℕ) → l < I .slots → In T l → (u : ℕ) × But (In R) root u × (I .slot u (p u) ≡ l)

@@ -1,11 +1,12 @@
 -- Where the labels of an edge's one end have a label of the other end that only one node may take: the cell there is unusable (document 02, wish 2).
 -- Labels rise within a node, so that there is at most one such place.
 use mathlib.Core.Path.{_≡_}
-use mathlib.Core.Bool.{not}
+use mathlib.Core.Bool.{true, not}
 use mathlib.Core.List.{List}
-use Prim.Native.Nat.{ℕ, suc, _/_, _%_, _^_, _≤_, _<_}
+use Prim.Native.Nat.{ℕ, suc, _%_, _^_, _≤_, _<_}
 use lib.Dec.{eqb}
 use lib.ListN.{length, getD}
+use Rattle.integers.specs.Words.{bit}
 use Rattle.instance.specs.Instance.{usable}
 
 -- labels that rise strictly
@@ -17,9 +18,9 @@ pub record Skips (labels : List ℕ) (label skip : ℕ) : Type 0 where
   pub inside : skip ≤ length labels
   pub passed : (p : ℕ) → p < length labels → usable label (getD labels p 0) ≡ not (eqb p skip)
 
--- a number that has a bit for each of some labels, by the label modulo 64: where it lacks the bit of a label, that is none of them
+-- a word that has each of some labels, modulo 64: a label whose bit it lacks is none of them
 abbrev pub bitAt : ℕ → ℕ
 bitAt label = 2 ^ (label % 64)
 
 abbrev pub Masks : List ℕ → ℕ → Type 0
-Masks labels mask = (p : ℕ) → p < length labels → mask / bitAt (getD labels p 0) % 2 ≡ 1
+Masks labels mask = (p : ℕ) → p < length labels → bit mask (getD labels p 0 % 64) ≡ true

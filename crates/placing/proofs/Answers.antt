@@ -1,32 +1,31 @@
--- From the tables to the sheet: a placing is a matching, the smallest of them the first that is listed, and the nodes of a search that ended are an obstruction.
+-- From the words to the sheet: a placing is a matching, the smallest of them the first that is listed, and nodes that cannot all be placed are an obstruction.
 -- Assumes nothing.
 use mathlib.Core.Path.{_≡_, refl, sym, ap, _∙_, subst}
-use mathlib.Core.Bool.{Bool, true, false, cond}
+use mathlib.Core.Bool.{Bool, true, cond}
 use mathlib.Core.List.{List, [], _∷_}
-use mathlib.Core.Logic.{_⊎_, inl, inr, ⊎-elim}
-use Prim.Native.Nat.{ℕ, _+_, _-_, _≤_, _<_}
+use mathlib.Core.Logic.{inl, inr, ⊎-elim}
+use Prim.Native.Nat.{ℕ, _+_, _≤_, _<_}
 use native.Mathlib.Omega.{arith}
 use borrow.Author.Tests.{eq-eqb, eqb-true, ltb-true, ltb-false}
-use lib.Dec.{eqb, ltb}
+use lib.Dec.{ltb}
 use lib.ListN.{length, getD, List·getD-eq-default}
 use lib.Seq.{ext-getD}
 use Rattle.integers.specs.Places.{tabulate}
-use Rattle.integers.proofs.Places.{by-test, by-cond, both-ways, if-true, if-false, and-true, and-both, length-tabulate, getD-tabulate}
-use Rattle.integers.proofs.Totals.{offset-part}
-use Rattle.instance.specs.Instance.{Instance, exclusive, first, nodeCells}
+use Rattle.integers.proofs.Places.{by-test, by-cond, both-ways, if-true, and-true, and-both, length-tabulate, getD-tabulate}
+use Rattle.integers.proofs.Counting.{climbs}
+use Rattle.instance.specs.Instance.{Instance, exclusive, first}
 use Rattle.instance.specs.Readable.{Proper}
-use Rattle.instance.proofs.LaidOut.{row-inside, positions-few, label-known}
+use Rattle.instance.proofs.RisingLabels.{exclusive-is, shared-not}
+use Rattle.instance.proofs.LaidOut.{row-inside, label-known}
 use Rattle.rules.specs.Costs.{position, chosen, Labelling, Matching}
 use Rattle.rules.specs.Matchings.{matchings}
 use Rattle.rules.proofs.Matchings.{first-is, none-is}
-use Rattle.assignment.specs.Rows.{Rows, In, but, count, some, Node, Placed}
+use Rattle.assignment.specs.Rows.{Rows, In, but, count}
 use Rattle.assignment.specs.First.{First}
 use Rattle.assignment.proofs.Counts.{differ, by-same, some-at, at-some, true-but, pigeonhole}
-use Rattle.assignment.proofs.Halls.{closed-shared}
 use Rattle.placing.specs.Placing.{member, labelled, Places, Obstruction}
-use Rattle.placing.specs.Tables.{entry, flag, rowsOf, Blocked}
-use Rattle.placing.specs.Laid.{slotOf, Filled, Opens}
-use Rattle.placing.proofs.Placings.{rows-proper, blocked-few, blocked-small}
+use Rattle.placing.specs.Words.{entry, opens, rowsOf, All, rank, Laid, Blocked}
+use Rattle.placing.proofs.Slots.{Kinds, opens-kinds, slot-label, same-slot, same-label}
 
 -- ---- the labels of a set of nodes
 
@@ -77,152 +76,152 @@ obstruction-none {I} proper {x} {y} o m =
     (I .label (chosen I y u), label-known proper (chosen I y u) (omega arith) (at u e .1), at-labelled I (member x) u (position y u) h k e, (e, refl))) in
     omega (arith, o .few)
 
--- ---- places of their nodes as positions
+-- ---- labels that one node takes
 
--- i is a place of u
-abbrev InRow : Instance → ℕ → ℕ → Type 0
-InRow I u i = (first I u ≤ i) × (i < first I u + I .degree u)
+small-exclusive : {l : ℕ} → l < 64 → exclusive l ≡ true
+small-exclusive {l} h = exclusive-is l (λ e. omega arith)
 
-abbrev positions : Instance → (ℕ → ℕ) → List ℕ
-positions I p = tabulate (I .nodeCount) (λ u. p u - first I u)
+exclusive-small : {l : ℕ} → Kinds l → exclusive l ≡ true → l < 64
+exclusive-small {l} (inl h) x = h
+exclusive-small {l} (inr e) x = absurd (shared-not l e x)
 
-module _ (I : Instance) {p : ℕ → ℕ} (row : (u : ℕ) → u < I .nodeCount → InRow I u (p u)) where
-  position-is : (u : ℕ) → u < I .nodeCount → position (positions I p) u ≡ p u - first I u
-  position-is u h = getD-tabulate (I .nodeCount) (λ u. p u - first I u) u 0 h
+-- ---- a position for each node
 
-  positions-labelling : Labelling I (positions I p)
-  positions-labelling = record {
-    size = length-tabulate (I .nodeCount) (λ u. p u - first I u);
-    within = λ u h. omega (arith, position-is u h, row u h);
-  }
+module _ (I : Instance) {f : ℕ → ℕ} (within : (u : ℕ) → u < I .nodeCount → f u < I .degree u) where
+  position-is : (u : ℕ) → u < I .nodeCount → position (tabulate (I .nodeCount) f) u ≡ f u
+  position-is u h = getD-tabulate (I .nodeCount) f u 0 h
 
-  positions-chosen : (u : ℕ) → u < I .nodeCount → chosen I (positions I p) u ≡ p u
+  positions-labelling : Labelling I (tabulate (I .nodeCount) f)
+  positions-labelling = record { size = length-tabulate (I .nodeCount) f; within = λ u h. omega (arith, position-is u h, within u h) }
+
+  positions-label : (u : ℕ) → u < I .nodeCount → I .label (chosen I (tabulate (I .nodeCount) f) u) ≡ I .label (first I u + f u)
   unfolding chosen
-  positions-chosen u h = omega (arith, position-is u h, row u h)
+  positions-label u h = ap (λ (k : ℕ). I .label (first I u + k)) (position-is u h)
 
-module _ {I : Instance} (proper : Proper I) {slots owners : List ℕ} {allowed : List Bool} (filled : Filled I (nodeCells I) slots owners) (opens : Opens (nodeCells I) allowed) where
+-- the positions of labels: their ranks
+abbrev ranks : ℕ → List ℕ → (ℕ → ℕ) → List ℕ
+ranks n sets p = tabulate n (λ u. rank (entry sets u) (p u))
+
+module _ {I : Instance} (proper : Proper I) {sets : List ℕ} {own : List Bool} (laid : Laid I (I .nodeCount) sets own) where
   abbrev rows : Rows
-  rows = rowsOf (I .nodeCount) slots owners allowed
+  rows = rowsOf (I .nodeCount) sets own
 
-  -- ---- open places
+  -- a label of u stands at its rank
+  at-rank : (u l : ℕ) → u < I .nodeCount → opens sets own u l ≡ true → (rank (entry sets u) l < I .degree u) × (I .label (first I u + rank (entry sets u) l) ≡ l)
+  at-rank u l h a =
+      let (k, j, e) = laid .only u l h a in
+      let r : rank (entry sets u) l ≡ k = ap (rank (entry sets u)) (sym e) ∙ laid .ranks u k h j in
+      (omega arith, ap (λ (i : ℕ). I .label (first I u + i)) r ∙ e)
 
-  -- an open place of u lies in the row of u, and has its label's slot
-  open-place : {u i : ℕ} → rows .may u i → (u < I .nodeCount) × InRow I u i × (entry slots i ≡ slotOf (I .label i) u)
-  unfolding first
-  open-place {u} {i} (_, b, o) =
-      let h : i < nodeCells I = by-test (ltb i (nodeCells I)) (ltb-true i (nodeCells I)) (λ e. absurd (differ o (opens .shut i (ltb-false i (nodeCells I) e)))) in
-      let (w, l, f, g) = offset-part (I .degree) (I .nodeCount) i h in
-      let e : first I w + (i - first I w) ≡ i = omega arith in
-      let q = rw e at (filled .place w (i - first I w) l (omega arith) (omega arith)) in
-      subst (λ v. (v < I .nodeCount) × InRow I v i × (entry slots i ≡ slotOf (I .label i) v)) (sym (q .1) ∙ b) (l, (f, g), q .0)
+  pub rank-few : (u l : ℕ) → u < I .nodeCount → opens sets own u l ≡ true → rank (entry sets u) l < 16
+  rank-few u l h a = let (j, _) = at-rank u l h a in omega (arith, proper .few u h)
 
-  place-open : (u k : ℕ) → u < I .nodeCount → k < I .degree u → rows .may u (first I u + k)
-  place-open u k h j = let r = row-inside I h in (omega (arith, positions-few proper), filled .place u k h j (omega arith) .1, opens .inside (first I u + k) (omega arith))
-
-  -- the slot is the label, below 64, or the node's own
-  slot-label : {u i : ℕ} → rows .may u i → exclusive (I .label i) ≡ true → (entry slots i ≡ I .label i) × (I .label i < 64)
-  unfolding slotOf
-  slot-label {u} {i} a x =
-      let (h, f, e) = open-place a in
-      let r = row-inside I h in
-      (e ∙ if-true (I .label i) (64 + u) x, omega (arith, label-known proper i (omega arith) x, proper .labelsFew))
-
-  slot-own : {u i : ℕ} → rows .may u i → exclusive (I .label i) ≡ false → entry slots i ≡ 64 + u
-  unfolding slotOf
-  slot-own {u} {i} a x = open-place a .2 ∙ if-false (I .label i) (64 + u) x
-
-  same-slot : {u w i j : ℕ} → rows .may u i → rows .may w j → exclusive (I .label i) ≡ true → I .label i ≡ I .label j → entry slots i ≡ entry slots j
-  same-slot a b x e = slot-label a x .0 ∙ e ∙ sym (slot-label b (sym (ap exclusive e) ∙ x) .0)
-
-  same-label : {u w i j : ℕ} → rows .may u i → rows .may w j → entry slots i ≡ entry slots j → ((exclusive (I .label i) ≡ true) × (I .label i ≡ I .label j)) ⊎ (u ≡ w)
-  same-label {u} {w} {i} {j} a b e = by-test (exclusive (I .label i))
-      (λ x. by-test (exclusive (I .label j)) (λ y. inl (x, omega (arith, slot-label a x, slot-label b y))) (λ y. absurd (omega (arith, slot-label a x, slot-own b y))))
-      (λ x. by-test (exclusive (I .label j)) (λ y. absurd (omega (arith, slot-own a x, slot-label b y))) (λ y. inr (omega (arith, slot-own a x, slot-own b y))))
+  -- of two labels of u the lower stands first: they rise
+  lower-first : (u j k : ℕ) → u < I .nodeCount → j < I .degree u → I .label (first I u + j) < I .label (first I u + k) → j < k
+  lower-first u j k h d l = by-test (ltb j k) (ltb-true j k) (λ t. let g = ltb-false j k t in by-same j k
+      (λ e. let q = ap (λ (i : ℕ). I .label (first I u + i)) e in absurd (omega arith))
+      (λ e. let q = climbs (λ i. I .label (first I u + i)) (I .degree u) (λ i. proper .rising u i h) k j (omega arith) d in absurd (omega arith)))
 
   -- ---- all nodes placed
 
-  pub place-inside : {p : ℕ → ℕ} → Placed rows (Node rows) p → (u : ℕ) → u < I .nodeCount → (first I u ≤ p u) × (p u < first I u + I .degree u)
-  place-inside m u h = open-place (m .allowed u h) .1
+  -- a placing as a matching
+  module _ {p : ℕ → ℕ} (m : All (I .nodeCount) sets own p) where
+    rank-within : (u : ℕ) → u < I .nodeCount → rank (entry sets u) (p u) < I .degree u
+    rank-within u h = at-rank u (p u) h (m .allowed u h) .0
 
-  placed-matching : {p : ℕ → ℕ} → Placed rows (Node rows) p → Matching I (positions I p)
-  placed-matching m =
-      let row = place-inside m in
-      record {
-        labelling = positions-labelling I row;
-        distinct = λ u w h h′. rw (positions-chosen I row u h, positions-chosen I row w h′) (λ x e. m .distinct u w h h′ (same-slot (m .allowed u h) (m .allowed w h′) x e));
-      }
+    ranks-labelling : Labelling I (ranks (I .nodeCount) sets p)
+    ranks-labelling = positions-labelling I rank-within
 
-  matching-placed : {y : List ℕ} → Matching I y → Placed rows (Node rows) (chosen I y)
+    ranks-label : (u : ℕ) → u < I .nodeCount → I .label (chosen I (ranks (I .nodeCount) sets p) u) ≡ p u
+    ranks-label u h = positions-label I rank-within u h ∙ at-rank u (p u) h (m .allowed u h) .1
+
+    placed-matching : Matching I (ranks (I .nodeCount) sets p)
+    placed-matching = record {
+      labelling = ranks-labelling;
+      distinct = λ u w h h′. rw (ranks-label u h, ranks-label w h′) (λ x e. m .distinct u w h h′ (same-slot u w (exclusive-small (opens-kinds sets own u (p u) (m .allowed u h)) x) e));
+    }
+
+  -- a matching as a placing
+  module _ {y : List ℕ} (m : Matching I y) where
+    matching-placed : All (I .nodeCount) sets own (λ u. I .label (chosen I y u))
+    unfolding chosen
+    matching-placed =
+        let may : (u : ℕ) → u < I .nodeCount → opens sets own u (I .label (chosen I y u)) ≡ true = (λ u h. laid .has u (position y u) h (m .labelling .within u h)) in
+        record {
+          allowed = may;
+          distinct = λ u w h h′ e. ⊎-elim (λ (x, q). m .distinct u w h h′ (small-exclusive x) q) (λ (q : u ≡ w). q)
+              (same-label (opens-kinds sets own u _ (may u h)) (opens-kinds sets own w _ (may w h′)) e);
+        }
+
+    matching-rank : (u : ℕ) → u < I .nodeCount → rank (entry sets u) (I .label (chosen I y u)) ≡ position y u
+    unfolding chosen
+    matching-rank u h = laid .ranks u (position y u) h (m .labelling .within u h)
+
+  -- where the labels agree the positions do, and where a label is lower the position is
+  pub smallest-first : {p : ℕ → ℕ} → First (All (I .nodeCount) sets own) (I .nodeCount) p
+      → (rest : List (List ℕ)) × (matchings I ≡ tabulate (I .nodeCount) (λ u. rank (entry sets u) (p u)) ∷ rest)
   unfolding chosen
-  matching-placed {y} m =
-      let may : (u : ℕ) → u < I .nodeCount → rows .may u (chosen I y u) = (λ u h. place-open u (position y u) h (m .labelling .within u h)) in
-      record {
-        allowed = may;
-        distinct = λ u w h h′ e. ⊎-elim (λ (x, q). m .distinct u w h h′ x q) (λ (q : u ≡ w). q) (same-label (may u h) (may w h′) e);
-      }
-
-  pub first-listed : {p : ℕ → ℕ} → First (Placed rows (Node rows)) (I .nodeCount) p → (rest : List (List ℕ)) × (matchings I ≡ tabulate (I .nodeCount) (λ u. p u - first I u) ∷ rest)
-  unfolding chosen
-  first-listed {p} f =
-      let row = place-inside (f .one) in
-      let at = position-is I row in
-      let size = positions-labelling I row .size in
-      first-is I (placed-matching (f .one)) (λ y m. ⊎-elim
-      (λ (u, h, a, l). inl (record { node = u; inside = h; same = λ w k. omega (arith, a w k, at w (omega arith)); smaller = omega (arith, at u h, row u h) }))
-      (λ a. inr (ext-getD 0 (positions I p) y (size ∙ sym (m .labelling .size)) (λ w k. let h : w < I .nodeCount = omega arith in omega (arith, a w h, at w h))))
-      (f .first (chosen I y) (matching-placed m)))
+  smallest-first {p} f =
+      let m = f .one in
+      let x = ranks (I .nodeCount) sets p in
+      let z = ranks-labelling m .size in
+      first-is I (placed-matching m) (λ y n.
+      let same : (w : ℕ) → w < I .nodeCount → p w ≡ I .label (chosen I y w) → position x w ≡ position y w =
+      (λ w h e. position-is I (rank-within m) w h ∙ ap (rank (entry sets w)) e ∙ matching-rank n w h) in
+      ⊎-elim
+      (λ (u, h, a, l). inl (record {
+        node = u;
+        inside = h;
+        same = λ w k. same w (omega arith) (a w k);
+        smaller = lower-first u (position x u) (position y u) h (ranks-labelling m .within u h) (omega (arith, ranks-label m u h));
+      }))
+      (λ a. inr (ext-getD 0 x y (z ∙ sym (n .labelling .size)) (λ w k. let h : w < I .nodeCount = omega arith in same w h (a w h))))
+      (f .first (λ u. I .label (chosen I y u)) (matching-placed n)))
 
   -- ---- some nodes not placed
 
-  module _ {nodes seen : List Bool} (b : Blocked rows nodes seen) where
-    -- a 255 would be a slot that no other node has
-    solid : (u i : ℕ) → In (flag nodes) u → rows .may u i → exclusive (I .label i) ≡ true
-    solid u i r a = by-test (exclusive (I .label i)) (λ x. x)
-        (λ x. absurd (closed-shared rows (rows-proper (I .nodeCount) allowed (filled .tables)) (b .tree) (b .closed) (b .placed) u i r a
-        (λ w j h c e. ⊎-elim (λ (y, _). absurd (differ y x)) (λ (q : u ≡ w). sym q) (same-label a c (sym e)))))
+  module _ {R : ℕ → Bool} (b : Blocked rows R) where
+    label-below : (u k : ℕ) → In R u → k < I .degree u → I .label (first I u + k) < 64
+    label-below u k r h = b .exits u _ r (laid .has u k (b .inside u r) h) .0
 
-    -- a label of the nodes reached is a slot that was seen
-    labels-few : count (I .labelCount) (labelled I (flag nodes)) < count (I .nodeCount) (flag nodes)
+    -- a label of theirs is a slot of theirs
+    labels-few : count (I .labelCount) (labelled I R) < count (I .nodeCount) R
     labels-few =
-        let a = pigeonhole (λ i j. i ≡ j) (λ i j k e f. e ∙ sym f) (I .labelCount) 128 (labelled I (flag nodes)) (flag seen)
-        (λ l h e. let (u, k, hu, hk, r, q) = labelled-at I (flag nodes) l e in
-        let i = first I u + k in
-        let c = place-open u k hu hk in
-        (l, omega (arith, proper .labelsFew), subst (In (flag seen)) (slot-label c (solid u i r c) .0 ∙ sym q) (b .closed .exits u i r c), refl)) in
-        omega (arith, blocked-few b)
+        let a = pigeonhole (λ i j. i ≡ j) (λ i j k e f. e ∙ sym f) (I .labelCount) 128 (labelled I R) (b .T)
+        (λ l h e. let (u, k, hu, hk, r, q) = labelled-at I R l e in
+        let (s, t) = b .exits u (I .label (first I u + k)) r (laid .has u k hu hk) in
+        (l, omega (arith, proper .labelsFew), subst (In (b .T)) (slot-label u s ∙ sym q) t, refl)) in
+        omega (arith, b .few)
 
     -- those that are not placed, w among them, take their first position
-    rest-places : (w : ℕ) → In (flag nodes) w → (y : List ℕ) × Places I (but (flag nodes) w) y
+    rest-places : (w : ℕ) → In R w → (y : List ℕ) × Places I (but R w) y
     rest-places w r =
-        let (q, m) = blocked-small b w r in
-        let S = but (flag nodes) w in
-        let in-S = true-but (flag nodes) w in
-        let p : ℕ → ℕ = (λ u. cond (S u) (q u) (first I u)) in
-        let row : (u : ℕ) → u < I .nodeCount → InRow I u (p u) =
-        (λ u h. by-cond (InRow I u) (S u) (λ e. open-place (m .allowed u (in-S u e)) .1) (λ e. omega (arith, proper .labelled u h))) in
-        let at : (u : ℕ) → In S u → chosen I (positions I p) u ≡ q u =
-        (λ u e. positions-chosen I row u (b .closed .nodes u (in-S u e .0)) ∙ if-true (q u) (first I u) e) in (
-          positions I p,
+        let (q, m) = b .rest w r in
+        let S = but R w in
+        let in-S = true-but R w in
+        let f : ℕ → ℕ = (λ u. cond (S u) (rank (entry sets u) (q u)) 0) in
+        let may : (u : ℕ) → In S u → opens sets own u (q u) ≡ true = (λ u e. m .allowed u (in-S u e)) in
+        let inside : (u : ℕ) → In S u → u < I .nodeCount = (λ u e. b .inside u (in-S u e .0)) in
+        let within : (u : ℕ) → u < I .nodeCount → f u < I .degree u = (λ u h. by-cond (λ k. k < I .degree u) (S u) (λ e. at-rank u (q u) h (may u e) .0) (λ e. proper .labelled u h)) in
+        let at : (u : ℕ) → In S u → I .label (chosen I (tabulate (I .nodeCount) f) u) ≡ q u =
+        (λ u e. positions-label I within u (inside u e) ∙ ap (λ (k : ℕ). I .label (first I u + k)) (if-true (rank (entry sets u) (q u)) 0 e) ∙ at-rank u (q u) (inside u e) (may u e) .1) in (
+          tabulate (I .nodeCount) f,
           record {
-            labelling = positions-labelling I row;
-            distinct = λ u v e e′. rw (at u e, at v e′) (λ l.
-                let a = m .allowed u (in-S u e) in
-                m .distinct u v (in-S u e) (in-S v e′) (same-slot a (m .allowed v (in-S v e′)) (solid u (q u) (in-S u e .0) a) l));
+            labelling = positions-labelling I within;
+            distinct = λ u v e e′. rw (at u e, at v e′) (λ l. m .distinct u v (in-S u e) (in-S v e′) (same-slot u v (b .exits u (q u) (in-S u e .0) (may u e) .0) l));
           },
         )
 
-    pub blocked-obstruction : Obstruction I (tabulate (I .nodeCount) (λ u. cond (flag nodes u) 1 0))
+    pub blocked-obstruction : Obstruction I (tabulate (I .nodeCount) (λ u. cond (R u) 1 0))
     blocked-obstruction =
-        let inside = b .closed .nodes in
-        let same = sym (member-bytes (I .nodeCount) (flag nodes) inside) in
+        let same = sym (member-bytes (I .nodeCount) R (b .inside)) in
         record {
-          size = length-tabulate (I .nodeCount) (λ u. cond (flag nodes u) 1 0);
-          flags = λ u h. rw (byte-at (I .nodeCount) (flag nodes) u h) (by-cond (λ k. k ≤ 1) (flag nodes u) (λ e. omega arith) (λ e. omega arith));
-          solid = subst (λ (S : ℕ → Bool). (u k : ℕ) → In S u → k < I .degree u → exclusive (I .label (first I u + k)) ≡ true) same
-              (λ u k r h. solid u (first I u + k) r (place-open u k (inside u r) h));
+          size = length-tabulate (I .nodeCount) (λ u. cond (R u) 1 0);
+          flags = λ u h. rw (byte-at (I .nodeCount) R u h) (by-cond (λ k. k ≤ 1) (R u) (λ e. omega arith) (λ e. omega arith));
+          solid = subst (λ (S : ℕ → Bool). (u k : ℕ) → In S u → k < I .degree u → exclusive (I .label (first I u + k)) ≡ true) same (λ u k r h. small-exclusive (label-below u k r h));
           few = subst (λ (S : ℕ → Bool). count (I .labelCount) (labelled I S) < count (I .nodeCount) S) same labels-few;
           small = subst (λ (S : ℕ → Bool). (w : ℕ) → In S w → (y : List ℕ) × Places I (but S w) y) same rest-places;
         }
 
-    pub blocked-unlisted : matchings I ≡ []
-    blocked-unlisted = none-is I (λ x m. obstruction-none proper blocked-obstruction m)
+    pub blocked-none : matchings I ≡ []
+    blocked-none = none-is I (λ x m. obstruction-none proper blocked-obstruction m)

@@ -1,137 +1,191 @@
--- The tables of a sheet, filled place by place.
+-- The words of a sheet's nodes, laid out node by node.
 -- Assumes nothing.
-use mathlib.Core.Path.{_≡_, refl, sym, ap, _∙_, subst}
-use mathlib.Core.Bool.{Bool, true, false}
+use mathlib.Core.Path.{_≡_, refl, sym, ap, ap₂, _∙_}
+use mathlib.Core.Bool.{Bool, true, false, cond, _&&_}
 use mathlib.Core.List.{List}
-use mathlib.Core.Logic.{⊎-elim}
-use Prim.Native.Nat.{ℕ, _+_, _-_, _≤_, _<_}
+use mathlib.Core.Logic.{_⊎_, inl, inr, ⊎-elim}
+use Prim.Native.Nat.{ℕ, suc, _+_, _-_, _^_, _≤_, _<_}
+use native.Mathlib.Numerals.{add-one}
 use native.Mathlib.Omega.{arith}
-use borrow.Author.Tests.{ltb-true, ltb-false}
-use lib.Dec.{ltb}
-use lib.ListN.{length, set, replicate, length-set, length-replicate, getD-replicate}
+use borrow.Author.Count.{below-more}
+use borrow.Author.Tests.{eqb-true, eqb-false, eq-eqb, lt-ltb, le-ltb}
+use lib.Bits.{bitAnd, bitOr}
+use lib.Count.{ones}
+use lib.Dec.{eqb, ltb}
+use lib.ListN.{length, set, length-set}
 use lib.Seq.{getD-set-same, getD-set-other}
-use Rattle.integers.proofs.Places.{by-test, if-true, if-false}
-use Rattle.integers.proofs.Totals.{offset-le, offset-lt, offset-part}
-use Rattle.instance.specs.Instance.{Instance, exclusive, first, nodeCells}
-use Rattle.instance.specs.Readable.{Proper}
-use Rattle.instance.proofs.LaidOut.{positions-few, label-known}
-use Rattle.assignment.specs.Rows.{In}
+use Rattle.integers.specs.Words.{bit, wordOf, Words}
+use Rattle.integers.specs.Rows.{part}
+use Rattle.integers.proofs.Rows.{length-part, getD-part}
+use Rattle.integers.proofs.Places.{by-test, and-true, and-both, if-true, if-false}
+use Rattle.integers.proofs.Words.{word-has, word-only, word-fits, word-rank, word-ones}
+use Rattle.instance.specs.Instance.{Instance, first}
+use Rattle.instance.specs.Sheet.{instanceOf}
+use Rattle.instance.specs.Readable.{Readable}
+use Rattle.instance.proofs.LaidOut.{row-inside}
 use Rattle.assignment.proofs.Counts.{by-same}
-use Rattle.placing.specs.Tables.{entry, flag, Tables, Sorted, Rowed}
-use Rattle.placing.specs.Laid.{slotOf, Filled, Opens}
-use Rattle.placing.proofs.Searching.{flag-none, entry-none}
+use Rattle.placing.specs.Words.{entry, flag, opens, below, rank, Laid}
+use Rattle.placing.specs.Labels.{Labels, Worded}
 
--- nothing is filled
-pub filled-none : (I : Instance) → Filled I 0 (replicate 1024 0) (replicate 1024 64)
-filled-none I = record {
-  place = λ u k a b h. absurd (omega arith);
-  behind = λ i _ h. getD-replicate {A = ℕ} 1024 i 64 0 h;
-  tables = record { slot = λ i h. let e = entry-none 1024 i in omega arith; owner = λ i h. let e = getD-replicate {A = ℕ} 1024 i 64 0 h in omega arith };
-  size-slots = length-replicate {A = ℕ} 1024 0;
-  size-owners = length-replicate {A = ℕ} 1024 64;
-}
+-- one label more in a word
+pub word-more : (f : ℕ → ℕ) (i : ℕ) → wordOf f (i + 1) ≡ bitOr (wordOf f i) (2 ^ f i)
+unfolding wordOf
+word-more f i = ap (wordOf f) (add-one i)
 
-module _ {I : Instance} (p : Proper I) where
-  -- a place belongs to one node
-  one-owner : (u k v j : ℕ) → k < I .degree u → j < I .degree v → first I u + k ≡ first I v + j → u ≡ v
-  unfolding first
-  one-owner u k v j a b e = by-test (ltb u v)
-      (λ t. let o = offset-le (I .degree) u v (ltb-true u v t) in absurd (omega arith))
-      (λ t. by-test (ltb v u)
-      (λ t′. let o = offset-le (I .degree) v u (ltb-true v u t′) in absurd (omega arith))
-      (λ t′. let x = ltb-false u v t in let y = ltb-false v u t′ in omega arith))
+-- what stands below a label of a word, and below 255
+below-small : (l : ℕ) → l < 64 → below l ≡ 2 ^ l - 1
+unfolding below
+below-small l h = if-true (2 ^ l - 1) (2 ^ 64 - 1) (lt-ltb l 64 h)
 
-  module _ {u k : ℕ} (h : u < I .nodeCount) (a : k < I .degree u) where
-    pub place-few : first I u + k < nodeCells I
-    unfolding first
-    place-few = offset-lt (I .degree) (I .nodeCount) h a
+below-large : (l : ℕ) → 64 ≤ l → below l ≡ 2 ^ 64 - 1
+unfolding below
+below-large l h = if-false (2 ^ l - 1) (2 ^ 64 - 1) (le-ltb l 64 h)
 
-    slot-few : slotOf (I .label (first I u + k)) u < 128
-    unfolding slotOf
-    slot-few = by-test (exclusive (I .label (first I u + k)))
-        (λ e. let l = label-known p (first I u + k) place-few e in rw e (omega (arith, p .labelsFew)))
-        (λ e. rw e (omega (arith, p .nodesFew)))
+-- ---- one node
 
-    -- one place more
-    pub filled-more : {past : ℕ} {slots owners : List ℕ} {s : ℕ} → Filled I past slots owners → past ≡ first I u + k → s ≡ slotOf (I .label past) u → Filled I (past + 1) (set slots past s) (set owners past u)
-    filled-more {past} {slots} {owners} {s} f e q =
-        let room : past < 1024 = omega (arith, place-few, positions-few p) in
-        let z₁ : past < length slots = omega (arith, f .size-slots) in
-        let z₂ : past < length owners = omega (arith, f .size-owners) in
-        let few : s < 128 = rw (q, e) slot-few in
-        record {
-          place = λ v j b c l. by-same (first I v + j) past
-              (λ y. let o : u ≡ v = one-owner u k v j a c (sym e ∙ sym y) in
-              subst (λ i. (entry (set slots past s) i ≡ slotOf (I .label i) v) × (entry (set owners past u) i ≡ v)) (sym y)
-              (getD-set-same slots past s 0 z₁ ∙ q ∙ ap (slotOf (I .label past)) o, getD-set-same owners past u 0 z₂ ∙ o))
-              (λ y. let (x, w) = f .place v j b c (omega arith) in (getD-set-other slots past (first I v + j) s 0 y ∙ x, getD-set-other owners past (first I v + j) u 0 y ∙ w));
-          behind = λ i l b. getD-set-other owners past i u 0 (λ y. omega arith) ∙ f .behind i (omega arith) b;
-          tables = record {
-            slot = λ i l. by-same i past (λ y. rw (y, getD-set-same slots past s 0 z₁) few) (λ y. rw (getD-set-other slots past i s 0 y) (f .tables .slot i l));
-            owner = λ i l. by-same i past (λ y. rw (y, getD-set-same owners past u 0 z₂) (omega (arith, p .nodesFew))) (λ y. rw (getD-set-other owners past i u 0 y) (f .tables .owner i l));
-          };
-          size-slots = simp length-set (f .size-slots);
-          size-owners = simp length-set (f .size-owners);
-        }
+-- whether a node of this word and flag may take the label l
+abbrev takes : ℕ → Bool → ℕ → Bool
+takes word own l = cond (ltb l 64) (bit word l) (eqb l 255 && own)
 
-  module _ {slots owners : List ℕ} (f : Filled I (nodeCells I) slots owners) where
-    -- a place's owner
-    pub owner-at : (l : ℕ) → l < nodeCells I → (v : ℕ) × (v < I .nodeCount) × (first I v ≤ l) × (l < first I v + I .degree v) × (entry owners l ≡ v)
-    unfolding first
-    owner-at l m =
-        let (v, n, a, c) = offset-part (I .degree) (I .nodeCount) l m in
-        let k = l - first I v in
-        let e : first I v + k ≡ l = omega arith in
-        (v, n, a, c, subst (λ i. entry owners i ≡ v) e (f .place v k n (omega arith) (omega arith) .1))
+module _ {f : ℕ → ℕ} {d : ℕ} (p : Labels f d) where
+  -- all labels are below 64 but for 255
+  pub small : {own : Bool} → own ≡ eqb (f (d - 1)) 255 → (k : ℕ) → k < d - cond own 1 0 → f k < 64
+  small {own = true} e k h = ⊎-elim (λ (b : f k < 64). b) (λ (v : (f k ≡ 255) × (suc k ≡ d)). absurd (omega arith)) (p .known k (omega arith))
+  small {own = false} e k h =
+      ⊎-elim (λ (b : f k < 64). b)
+      (λ (v : (f k ≡ 255) × (suc k ≡ d)). let i : d - 1 ≡ k = omega arith in absurd (eqb-false (f (d - 1)) 255 (sym e) (ap f i ∙ v .0)))
+      (p .known k (omega arith))
 
-    -- the owners rise
-    filled-sorted : Sorted owners
-    unfolding first
-    filled-sorted i j h b = by-test (ltb j (nodeCells I)) inside (λ t. let e = f .behind j (ltb-false j (nodeCells I) t) b in let o = f .tables .owner i (omega arith) in omega arith)
+  -- a label is among those of the word, or it is 255 and the last
+  split : {own : Bool} → own ≡ eqb (f (d - 1)) 255 → (k : ℕ) → k < d → (k < d - cond own 1 0) ⊎ ((own ≡ true) × (f k ≡ 255) × (k ≡ d - cond own 1 0))
+  split {own = true} e k h = by-same k (d - 1) (λ i. inr (refl, ap f i ∙ eqb-true (f (d - 1)) 255 (sym e), i)) (λ i. inl (omega arith))
+  split {own = false} e k h = inl (omega arith)
+
+  module _ {word : ℕ} {own : Bool} (w : Worded f d word own) where
+    abbrev m : ℕ
+    m = d - cond own 1 0
+
+    word-small : word < 2 ^ 64
+    word-small = rw (w .others) (word-fits f m (small (w .last)))
+
+    -- the node may take each of its labels, and no other
+    takes-each : (k : ℕ) → k < d → takes word own (f k) ≡ true
+    takes-each k h =
+        ⊎-elim (λ (i : k < m). if-true _ _ (lt-ltb (f k) 64 (small (w .last) k i)) ∙ ap (λ (x : ℕ). bit x (f k)) (w .others) ∙ word-has f m k i)
+        (λ (v : (own ≡ true) × (f k ≡ 255) × (k ≡ m)). if-false _ _ (le-ltb (f k) 64 (omega arith)) ∙ and-both (eq-eqb (f k) 255 (v .1)) (v .0))
+        (split (w .last) k h)
+
+    takes-only : (l : ℕ) → takes word own l ≡ true → (k : ℕ) × (k < d) × (f k ≡ l)
+    takes-only l e = by-test (ltb l 64)
+        (λ t. let (k, h, q) = word-only f m l (ap (λ (x : ℕ). bit x l) (sym (w .others)) ∙ sym (if-true _ _ t) ∙ e) in (k, omega arith, q))
+        (λ t. let (a, b) = and-true (eqb l 255) own (sym (if-false _ _ t) ∙ e) in
+        (d - 1, omega (arith, p .some), eqb-true (f (d - 1)) 255 (sym (w .last) ∙ b) ∙ sym (eqb-true l 255 a)))
+
+    -- a label's rank is its place
+    ranked : (k : ℕ) → k < d → rank word (f k) ≡ k
+    unfolding rank
+    ranked k h =
+        let among : ℕ → ℕ = (λ x. ones (bitAnd (wordOf f m) x)) in
+        ap (λ (x : ℕ). rank x (f k)) (w .others)
+        ∙ ⊎-elim (λ (i : k < m). ap among (below-small (f k) (small (w .last) k i)) ∙ word-rank f m up k i)
+        (λ (v : (own ≡ true) × (f k ≡ 255) × (k ≡ m)). ap among (below-large (f k) (omega arith)) ∙ word-ones f m up (small (w .last)) ∙ sym (v .2))
+        (split (w .last) k h)
       where
-        inside : ltb j (nodeCells I) ≡ true → entry owners i ≤ entry owners j
-        inside t =
-            let m = ltb-true j (nodeCells I) t in
-            let (v, _, a, c, e) = owner-at i (omega arith) in
-            let (w, _, a′, c′, e′) = owner-at j m in
-            by-test (ltb w v) (λ g. let o = offset-le (I .degree) w v (ltb-true w v g) in absurd (omega arith)) (λ g. let o = ltb-false w v g in omega arith)
+        up : (x : ℕ) → suc x < m → f x < f (suc x)
+        up x l = p .rising x (omega arith)
 
-    -- a node's first place is where its places begin
-    pub filled-rowed : {n : ℕ} {heads : List ℕ} → n ≡ I .nodeCount → ((u : ℕ) → u < I .nodeCount → entry heads u ≡ first I u) → Rowed n owners heads
-    filled-rowed {n} {heads} q at = record {
-      sorted = filled-sorted;
-      head = λ u h.
-          let g : u < I .nodeCount = omega arith in
-          let d = p .labelled u g in
-          let few = place-few g d in
-          let e : first I u + 0 ≡ first I u = omega arith in
-          rw (at u g) (record {
-            from = omega arith;
-            within = omega (arith, positions-few p);
-            owned = λ _. subst (λ i. entry owners i ≡ u) e (f .place u 0 g d few .1);
-            before = λ k _ l o. let (v, _, a, c, y) = owner-at k (omega arith) in let z = ap (first I) (sym y ∙ o) in omega arith;
-          });
-    }
+-- ---- all nodes
 
-    -- a place of a node is open
-    pub filled-open : {n : ℕ} {allowed : List Bool} → n ≤ 64 → Opens (nodeCells I) allowed → (i : ℕ) → i < 1024 → entry owners i < n → In (flag allowed) i
-    filled-open few o i h l = by-test (ltb i (nodeCells I)) (λ t. o .inside i (ltb-true i (nodeCells I) t)) (λ t. let e = f .behind i (ltb-false i (nodeCells I) t) h in absurd (omega arith))
+-- the nodes below u are laid out, in tables of 64
+pub record Laying (I : Instance) (u : ℕ) (sets : List ℕ) (own : List Bool) : Type 0 where
+  pub laid : Laid I u sets own
+  pub size-sets : length sets ≡ 64
+  pub size-own : length own ≡ 64
 
--- ---- the open places, one after another
+pub laid-none : (I : Instance) {sets : List ℕ} {own : List Bool} → Words sets → Laid I 0 sets own
+laid-none I fit = record { fit = fit; has = λ u k h. absurd (omega arith); only = λ u l h. absurd (omega arith); ranks = λ u k h. absurd (omega arith) }
 
-pub record Opening (count : ℕ) (allowed : List Bool) (i : ℕ) : Type 0 where
-  pub within : i ≤ count
-  pub opens : Opens i allowed
+-- one node more, with labels f
+module _ {I : Instance} {u : ℕ} {f : ℕ → ℕ} {d : ℕ} (p : Labels f d) (size : d ≡ I .degree u) (same : (k : ℕ) → k < d → f k ≡ I .label (first I u + k))
+    (room : u < 64) {word : ℕ} {last : Bool} (w : Worded f d word last) {sets : List ℕ} {own : List Bool} (g : Laying I u sets own) where
+  abbrev sets′ : List ℕ
+  sets′ = set sets u word
 
-pub opening-none : (count : ℕ) → Opening count (replicate 1024 false) 0
-opening-none count = record { within = omega arith; opens = record { size = length-replicate 1024 false; inside = λ i h. absurd (omega arith); shut = λ i _. flag-none 1024 i } }
+  abbrev own′ : List Bool
+  own′ = set own u last
 
-pub opening-more : {count : ℕ} {allowed : List Bool} {i : ℕ} → Opening count allowed i → i < count → i < 1024 → Opening count (set allowed i true) (i + 1)
-opening-more {count} {allowed} {i} o h b = record {
-  within = omega arith;
-  opens = record {
-    size = simp length-set (o .opens .size);
-    inside = λ k l. by-same k i (λ e. rw e (getD-set-same allowed i true false (omega (arith, o .opens .size)))) (λ e. getD-set-other allowed i k true false e ∙ o .opens .inside k (omega arith));
-    shut = λ k l. getD-set-other allowed i k true false (λ e. omega arith) ∙ o .opens .shut k (omega arith);
-  };
-}
+  word-here : entry sets′ u ≡ word
+  word-here = getD-set-same sets u word 0 (omega (arith, g .size-sets))
+
+  word-before : (v : ℕ) → v < u → entry sets′ v ≡ entry sets v
+  word-before v h = getD-set-other sets u v word 0 (λ e. omega arith)
+
+  opens-here : (l : ℕ) → opens sets′ own′ u l ≡ takes word last l
+  unfolding opens
+  opens-here l = ap₂ (λ (x : ℕ) (b : Bool). takes x b l) word-here (getD-set-same own u last false (omega (arith, g .size-own)))
+
+  opens-before : (v l : ℕ) → v < u → opens sets′ own′ v l ≡ opens sets own v l
+  unfolding opens
+  opens-before v l h = ap₂ (λ (x : ℕ) (b : Bool). takes x b l) (word-before v h) (getD-set-other own u v last false (λ e. omega arith))
+
+  laid-node : Laid I (u + 1) sets′ own′
+  laid-node = record {
+    fit = λ i. by-same i u (λ e. rw (e, word-here) (word-small p w)) (λ e. rw (getD-set-other sets u i word 0 e) (g .laid .fit i));
+    has = λ v k h.
+        below-more (λ v. k < I .degree v → opens sets′ own′ v (I .label (first I v + k)) ≡ true) u
+        (λ v h l. opens-before v (I .label (first I v + k)) h ∙ g .laid .has v k h l)
+        (λ l. opens-here (I .label (first I u + k)) ∙ ap (takes word last) (sym (same k (omega arith))) ∙ takes-each p w k (omega arith)) v h;
+    only = λ v l h.
+        below-more (λ v. opens sets′ own′ v l ≡ true → (k : ℕ) × (k < I .degree v) × (I .label (first I v + k) ≡ l)) u
+        (λ v h e. g .laid .only v l h (sym (opens-before v l h) ∙ e))
+        (λ e. let (k, b, q) = takes-only p w l (sym (opens-here l) ∙ e) in (k, omega arith, sym (same k b) ∙ q)) v h;
+    ranks = λ v k h.
+        below-more (λ v. k < I .degree v → rank (entry sets′ v) (I .label (first I v + k)) ≡ k) u
+        (λ v h l. ap (λ (x : ℕ). rank x (I .label (first I v + k))) (word-before v h) ∙ g .laid .ranks v k h l)
+        (λ l. ap₂ rank word-here (sym (same k (omega arith))) ∙ ranked p w k (omega arith)) v h;
+  }
+
+-- ---- the labels of a node, in a sheet
+
+-- its bytes
+abbrev pub bytesOf : List ℕ → ℕ → List ℕ
+bytesOf s u = part s (instanceOf s .nodeCount + first (instanceOf s) u) (instanceOf s .degree u)
+
+module _ {s : List ℕ} (r : Readable s) {u : ℕ} (h : u < instanceOf s .nodeCount) where
+  abbrev I : Instance
+  I = instanceOf s
+
+  abbrev a : ℕ
+  a = I .nodeCount + first I u
+
+  pub bytes-inside : a + I .degree u ≤ length s
+  bytes-inside = omega (arith, row-inside I h, r .whole)
+
+  bytes-long : length (bytesOf s u) ≡ I .degree u
+  bytes-long = length-part s a (I .degree u) bytes-inside
+
+  bytes-at : (k : ℕ) → k < length (bytesOf s u) → entry (bytesOf s u) k ≡ I .label (first I u + k)
+  unfolding instanceOf
+  bytes-at k l =
+      let n = bytes-long in
+      let e : a + k ≡ I .nodeCount + (first I u + k) = omega arith in
+      getD-part s a (I .degree u) k 0 (omega arith) ∙ ap (entry s) e
+
+  pub bytes-labels : Labels (entry (bytesOf s u)) (length (bytesOf s u))
+  bytes-labels = let n = bytes-long in let p = r .proper in record {
+    some = omega (arith, p .labelled u h);
+    known = λ k l.
+        ⊎-elim (λ (b : I .label (first I u + k) < I .labelCount). let e = bytes-at k l in inl (omega (arith, p .labelsFew)))
+        (λ (v : (I .label (first I u + k) ≡ 255) × (suc k ≡ I .degree u)). inr (bytes-at k l ∙ v .0, v .1 ∙ sym n))
+        (p .known u k h (omega arith));
+    rising = λ k l. let e = bytes-at k (omega arith) in let e′ = bytes-at (suc k) l in omega (arith, p .rising u k h (omega arith));
+  }
+
+  -- its word and its flag stored
+  pub laid-more : {word : ℕ} {last : Bool} → Worded (entry (bytesOf s u)) (length (bytesOf s u)) word last
+      → {sets : List ℕ} {own : List Bool} → Laying I u sets own → Laying I (u + 1) (set sets u word) (set own u last)
+  laid-more w g = record {
+    laid = laid-node bytes-labels bytes-long bytes-at (omega (arith, r .proper .nodesFew)) w g;
+    size-sets = simp length-set (g .size-sets);
+    size-own = simp length-set (g .size-own);
+  }

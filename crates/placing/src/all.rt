@@ -1,106 +1,56 @@
-// All nodes placed, or the nodes that cannot be.
-use crate::search::Extended;
-use crate::search::Placing;
-use crate::search::extend;
+// All nodes placed one by one, or nodes that cannot all be.
+use crate::moves::chain;
 ghost use mathlib.Core.Path.{_≡_};
-ghost use Prim.Native.Nat.{ℕ, _≤_, _<_};
-ghost use Rattle.assignment.specs.Rows.{In};
-ghost use Rattle.placing.specs.Tables.{Tables, Sorted, Rowed, FirstFrom, FirstFree, Taking, PlacedAll, Placeable, entry, flag};
+ghost use Prim.Native.Nat.{ℕ, _-_, _^_, _≤_, _<_};
+ghost use Rattle.placing.specs.Words.{entry, Linked, Stopped};
 
-// The first place from `head` on that node `u` owns and whose slot is free, and 1024 if there is none.
-fn first_free(
-    slots: &[u8; 1024],
-    owners: &[u8; 1024],
-    holders: &[u8; 128],
-    u: u8,
-    head: usize,
-) -> usize
-    requires { ⌜ Tables (now slots) (now owners) × Sorted (now owners) × FirstFrom (now owners) u 0 head ⌝ }
-    ensures { λ r. ⌜ FirstFree (now (slots .entry)) (now (owners .entry)) (now (holders .entry)) u r ⌝ }
-{
-    let mut i = head;
-    while i < 1024 {
-        if owners[i] != u {
-            return 1024;
-        }
-        let l = slots[i] as usize;
-        if 64 <= holders[l] {
-            return i;
-        }
-        i += 1;
-    }
-    1024
+// Whether all nodes were placed, and then which labels are free; else the node for which there is no label, and the labels seen.
+pub(crate) struct Stop {
+    pub placed: bool,
+    pub root: usize,
+    pub free: u64,
+    pub seen: u64,
 }
 
-// The nodes below `count`, each at its first place that those below it leave free.
-pub(crate) struct Taken {
-    pub count: usize,
-    pub placing: Placing,
-}
-
-// Places the nodes in order, each at its first free place, up to one that has none.
-pub(crate) fn take_first(
-    n: usize,
-    slots: &[u8; 1024],
-    owners: &[u8; 1024],
-    heads: &[usize; 64],
-    allowed: &[bool; 1024],
-) -> Taken
-    requires { ⌜ Tables (now slots) (now owners) × Rowed n (now owners) (now heads) × (n ≤ 64) ⌝ }
-    requires { ⌜ ((i : ℕ) → i < 1024 → entry (now owners) i < n → In (flag (now allowed)) i) ⌝ }
-    ensures { λ r. ⌜ Taking n (now (slots .entry)) (now (owners .entry)) (now (allowed .entry)) (r .placing .at) (r .placing .holders) (r .count) ⌝ }
-{
-    let mut at = [0u16; 64];
-    let mut holders = [64u8; 128];
-    let mut u = 0;
-    while u < n {
-        let node = u as u8;
-        let i = first_free(slots, owners, &holders, node, heads[u]);
-        if 1024 <= i {
-            return Taken {
-                count: u,
-                placing: Placing { at, holders },
-            };
-        }
-        let l = slots[i] as usize;
-        at[u] = i as u16;
-        holders[l] = node;
-        u += 1;
-    }
-    Taken {
-        count: u,
-        placing: Placing { at, holders },
-    }
-}
-
-// Places the nodes from `count` on too, one by one.
+// Places the nodes in order: those that have 255 there, the others by chains.
 pub(crate) fn place_all(
     n: usize,
-    slots: &[u8; 1024],
-    owners: &[u8; 1024],
-    heads: &[usize; 64],
-    allowed: &[bool; 1024],
-    start: Taken,
-) -> Extended
-    requires { ⌜ Tables (now slots) (now owners) × Rowed n (now owners) (now heads) × (n ≤ 64) × (start .count ≤ n) ⌝ }
-    requires { ⌜ PlacedAll (start .count) (now slots) (now owners) (now allowed) (start .placing .at) (start .placing .holders) ⌝ }
-    ensures { λ r. ⌜ Placeable n (now (slots .entry)) (now (owners .entry)) (now (allowed .entry)) (r .placed) (r .placing .at) (r .placing .holders) (r .nodes) (r .seen) ⌝ }
+    sets: &[u64; 64],
+    own: &[bool; 64],
+    taken: &mut [u8; 64],
+    holders: &mut [u8; 64],
+    reach: &mut [u64; 64],
+) -> Stop
+    requires { ⌜ (n ≤ 64) × Linked (now sets) (now taken) (now holders) (now reach) (2 ^ 64 - 1) × ((u : ℕ) → u < 64 → entry (now taken) u ≡ 255) ⌝ }
+    ensures { λ r. ⌜ Stopped n (now (sets .entry)) (now (own .entry)) (now (taken .exit)) (now (holders .exit)) (now (reach .exit)) (r .placed) (r .root) (r .free) (r .seen) ⌝ }
 {
-    let mut placing = start.placing;
-    let mut u = start.count;
+    let mut free = 18446744073709551615;
+    let mut u = 0;
     while u < n {
-        let r = extend(u + 1, slots, owners, heads, allowed, u, placing);
-        if r.placed {
-            placing = r.placing;
+        let next = u + 1;
+        let vanishes = own[u];
+        if vanishes {
+            u = next;
         } else {
-            return r;
+            let start = sets[u];
+            let r = chain(sets, taken, holders, reach, free, start, 0, u);
+            if r.found {
+                free = r.free;
+                u = next;
+            } else {
+                return Stop {
+                    placed: false,
+                    root: u,
+                    free,
+                    seen: r.seen,
+                };
+            }
         }
-        u += 1;
     }
-    Extended {
+    Stop {
         placed: true,
-        placing,
-        nodes: [false; 64],
-        seen: [false; 128],
+        root: n,
+        free,
+        seen: 0,
     }
 }

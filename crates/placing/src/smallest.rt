@@ -1,55 +1,51 @@
 // The smallest placing, or nodes that cannot all be placed.
 use crate::all::place_all;
-use crate::all::take_first;
-use crate::settling::settle;
-ghost use Prim.Native.Nat.{ℕ, _≤_, _<_};
-ghost use mathlib.Core.Path.{_≡_};
-ghost use lib.ListN.{length};
-ghost use Rattle.assignment.specs.Rows.{In};
-ghost use Rattle.placing.specs.Tables.{Tables, Rowed, Answer, entry, flag};
+use crate::greedy::take_first;
+use crate::lowering::lower_all;
+ghost use Prim.Native.Nat.{_≤_};
+ghost use Rattle.integers.specs.Words.{Words};
+ghost use Rattle.placing.specs.Words.{Answer};
 
-// A place for each node, or a set of nodes.
+// A label for each node, or the root of a search that failed and the labels that it saw.
 pub(crate) struct Found {
     pub placed: bool,
-    pub at: [u16; 64],
-    pub nodes: [bool; 64],
+    pub taken: [u8; 64],
+    pub root: usize,
+    pub seen: u64,
 }
 
-// Where each node finds a place that those below it leave free, that is the smallest placing at once. Else nodes are shifted, and then moved down as far as can be.
-pub(crate) fn smallest(
-    n: usize,
-    slots: &[u8; 1024],
-    owners: &[u8; 1024],
-    heads: &[usize; 64],
-    allowed: &[bool; 1024],
-) -> Found
-    requires { ⌜ Tables (now slots) (now owners) × Rowed n (now owners) (now heads) × (n ≤ 64) × (length (now allowed) ≡ 1024) ⌝ }
-    requires { ⌜ ((i : ℕ) → i < 1024 → entry (now owners) i < n → In (flag (now allowed)) i) ⌝ }
-    ensures { λ r. ⌜ Answer n (now (slots .entry)) (now (owners .entry)) (now (allowed .entry)) (r .placed) (r .at) (r .nodes) ⌝ }
+// Where each node finds a label that those below it leave free, that is the smallest placing at once. Else nodes are placed by chains, and then moved down as far as can be.
+pub(crate) fn smallest(n: usize, sets: &[u64; 64], own: &[bool; 64]) -> Found
+    requires { ⌜ (n ≤ 64) × Words (now sets) ⌝ }
+    ensures { λ r. ⌜ Answer n (now (sets .entry)) (now (own .entry)) (r .placed) (r .taken) (r .root) (r .seen) ⌝ }
 {
-    let taken = take_first(n, slots, owners, heads, allowed);
-    if n <= taken.count {
-        let first = taken.placing;
-        let at = first.at;
+    let mut first = [255u8; 64];
+    let done = take_first(n, sets, own, &mut first);
+    if done {
         return Found {
             placed: true,
-            at,
-            nodes: [false; 64],
+            taken: first,
+            root: 0,
+            seen: 0,
         };
     }
-    let r = place_all(n, slots, owners, heads, allowed, taken);
+    let mut taken = [255u8; 64];
+    let mut holders = [0u8; 64];
+    let mut reach = [0u64; 64];
+    let r = place_all(n, sets, own, &mut taken, &mut holders, &mut reach);
     if r.placed {
-        let at = settle(n, slots, owners, heads, allowed, r.placing);
+        lower_all(n, sets, &mut taken, &mut holders, &mut reach, r.free);
         return Found {
             placed: true,
-            at,
-            nodes: [false; 64],
+            taken,
+            root: 0,
+            seen: 0,
         };
     }
-    let nodes = r.nodes;
     Found {
         placed: false,
-        at: [0; 64],
-        nodes,
+        taken,
+        root: r.root,
+        seen: r.seen,
     }
 }

@@ -1,73 +1,64 @@
-// The sheet as tables over places.
+// The sheet as words: for each node the word of its labels, and whether it has 255.
+use crate::words::bit_of;
 use index::wide;
-use instance::exclusive;
 ghost use mathlib.Core.Path.{_≡_};
-ghost use Prim.Native.Nat.{_+_, _≤_, _<_};
-ghost use Rattle.instance.specs.Instance.{first, nodeCells};
+ghost use Prim.Native.Nat.{ℕ, _≤_, _<_};
+ghost use lib.ListN.{length};
+ghost use Rattle.integers.specs.Words.{wordOf, Words};
+ghost use Rattle.instance.specs.Instance.{first};
 ghost use Rattle.instance.specs.Sheet.{instanceOf, refusalOf};
-ghost use Rattle.placing.specs.Laid.{slotOf, Filled, Opens};
+ghost use Rattle.placing.specs.Words.{entry, Laid};
+ghost use Rattle.placing.specs.Labels.{Labels, Worded};
 
-// The slot of a label: for 255 the node's own.
-fn slot_of(label: u8, u: u8) -> u8
-    requires { ⌜ u < 64 ⌝ }
-    ensures { λ r. ⌜ r ≡ slotOf label u ⌝ }
-{
-    if exclusive(wide(label)) {
-        label
-    } else {
-        64 + u
-    }
+// The labels of a node below 64 as a word, and whether it has 255.
+struct Row {
+    word: u64,
+    own: bool,
 }
 
-// The places of node `u`, which begin at `start`. Answers where they end.
-fn lay_row(
-    sheet: &[u8],
-    n: usize,
-    u: usize,
-    start: usize,
-    slots: &mut [u8; 1024],
-    owners: &mut [u8; 1024],
-) -> usize
-    requires { ⌜ (refusalOf (now sheet) ≡ 0) × (n ≡ instanceOf (now sheet) .nodeCount) × (u < n) × (start ≡ first (instanceOf (now sheet)) u) ⌝ }
-    requires { ⌜ Filled (instanceOf (now sheet)) start (now slots) (now owners) ⌝ }
-    ensures { λ r. ⌜ r ≡ first (instanceOf (now (sheet .entry))) (u + 1) ⌝ }
-    ensures { λ r. ⌜ Filled (instanceOf (now (sheet .entry))) r (now (slots .exit)) (now (owners .exit)) ⌝ }
+// The word of the first `count` labels, which are below 64.
+fn word_of(labels: &[u8], count: usize) -> u64
+    requires { ⌜ (count ≤ length (now labels)) × ((k : ℕ) → k < count → entry (now labels) k < 64) ⌝ }
+    ensures { λ r. ⌜ r ≡ wordOf (entry (now (labels .entry))) count ⌝ }
 {
-    let owner = u as u8;
-    let past = start + wide(sheet[u]);
-    let mut i = start;
-    while i < past {
-        slots[i] = slot_of(sheet[n + i], owner);
-        owners[i] = owner;
-        i += 1;
-    }
-    past
-}
-
-// All nodes' places.
-pub(crate) fn lay_out(sheet: &[u8], n: usize, slots: &mut [u8; 1024], owners: &mut [u8; 1024])
-    requires { ⌜ (refusalOf (now sheet) ≡ 0) × (n ≡ instanceOf (now sheet) .nodeCount) ⌝ }
-    requires { ⌜ Filled (instanceOf (now sheet)) 0 (now slots) (now owners) ⌝ }
-    ensures { λ _. ⌜ Filled (instanceOf (now (sheet .entry))) (nodeCells (instanceOf (now (sheet .entry)))) (now (slots .exit)) (now (owners .exit)) ⌝ }
-{
-    let mut start = 0;
-    let mut u = 0;
-    while u < n {
-        start = lay_row(sheet, n, u, start, slots, owners);
-        u += 1;
-    }
-}
-
-// All places are open but those past the last.
-pub(crate) fn open_places(count: usize) -> [bool; 1024]
-    requires { ⌜ count ≤ 1024 ⌝ }
-    ensures { λ r. ⌜ Opens count r ⌝ }
-{
-    let mut allowed = [false; 1024];
+    let mut word = 0;
     let mut i = 0;
     while i < count {
-        allowed[i] = true;
+        word = word | bit_of(labels[i] as usize);
         i += 1;
     }
-    allowed
+    word
+}
+
+// The labels of one node. Labels rise, so 255 is the last.
+fn row_of(labels: &[u8]) -> Row
+    requires { ⌜ Labels (entry (now labels)) (length (now labels)) ⌝ }
+    ensures { λ r. ⌜ Worded (entry (now (labels .entry))) (length (now (labels .entry))) (r .word) (r .own) ⌝ }
+{
+    let own = labels[labels.len() - 1] == 255;
+    let word = word_of(labels, labels.len() - own as usize);
+    Row { word, own }
+}
+
+// All nodes. Node u's labels begin at the place `starts[u]`.
+pub(crate) fn lay_words(
+    sheet: &[u8],
+    n: usize,
+    starts: &[usize; 64],
+    sets: &mut [u64; 64],
+    own: &mut [bool; 64],
+)
+    requires { ⌜ (refusalOf (now sheet) ≡ 0) × (n ≡ instanceOf (now sheet) .nodeCount) × ((u : ℕ) → u < n → entry (now starts) u ≡ first (instanceOf (now sheet)) u) ⌝ }
+    requires { ⌜ (length (now sets) ≡ 64) × (length (now own) ≡ 64) × Words (now sets) ⌝ }
+    ensures { λ _. ⌜ Laid (instanceOf (now (sheet .entry))) n (now (sets .exit)) (now (own .exit)) ⌝ }
+{
+    let mut u = 0;
+    while u < n {
+        let from = n + starts[u];
+        let past = from + wide(sheet[u]);
+        let row = row_of(&sheet[from..past]);
+        sets[u] = row.word;
+        own[u] = row.own;
+        u += 1;
+    }
 }

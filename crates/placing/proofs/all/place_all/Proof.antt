@@ -1,52 +1,55 @@
--- `place_all` meets its contract: the nodes below u are placed.
-use Prim.Native.Nat.{_-_, _≤_}
-use mathlib.Core.Path.{refl}
+-- `place_all` meets its contract: the nodes below u are seated.
+use Prim.Native.Nat.{_-_, _<_}
+use mathlib.Core.Path.{_≡_, refl}
+use mathlib.Core.Bool.{false}
 use native.Mathlib.Omega.{arith}
+use Rattle.integers.proofs.Words.{bit-zero}
 use Rattle.assignment.proofs.Counts.{differ}
-use Rattle.placing.specs.Tables.{PlacedAll}
-use Rattle.placing.proofs.Placings.{ready-next, placed-end, blocked-more}
-use Rattle.placing.proofs.Queues.{rowed-part}
+use Rattle.placing.proofs.Seating.{Filling, filling-none, filling-own, filling-unplaced, filling-more, filling-blocked, filling-done}
 use Rattle.placing.proofs.all.place_all.Statement.{statement}
 use Rattle.placing.proofs.all.place_all.Tie as tie
 
 abbrev Inv-loop : tie.InvT-loop
-Inv-loop n slots owners heads allowed placing₀ u₀ placing u = (u ≤ n) × PlacedAll u slots owners allowed (placing .at) (placing .holders)
+Inv-loop n sets own taken₀ holders₀ reach₀ free₀ u₀ taken holders reach free u = Filling n sets own taken holders reach free u
 
 abbrev μ-loop : tie.MeasureT-loop
-μ-loop n slots owners heads allowed placing₀ u₀ placing u = n - u
+μ-loop n sets own taken₀ holders₀ reach₀ free₀ u₀ taken holders reach free u = n - u
+
+-- a node of the turn
+module _ (t : tie.In-loop Inv-loop μ-loop) where
+  few : t .before .loop .u < 64
+  few = omega (arith, t .loop-test .taken, t .before .before .pre .0)
 
 loop-holds : tie.Need-loop-holds Inv-loop μ-loop
-loop-holds c = (c .before .pre .0 .3, c .before .pre .1)
+loop-holds c = filling-none (c .pre .1) (c .pre .2)
 
-add-extend : tie.Need-add-extend Inv-loop μ-loop
-add-extend c = omega (arith, c .before .before .before .pre .0 .2, c .loop-test .taken)
+loop-again : tie.Need-loop-again Inv-loop μ-loop
+loop-again c = let t = c .before .before in filling-own (t .before .before .pre .0) (t .before .loop .inv) (t .loop-test .taken) (c .if1 .taken)
 
-extend-requires : tie.Need-extend-requires Inv-loop μ-loop
-extend-requires c κs =
-    let q = c .before .before .before .pre .0 in
-    let h = c .loop-test .taken in
-    (rowed-part (omega arith) (q .1), ready-next (q .0) (omega (arith, q .2)) (c .before .loop .inv .1))
+chain-requires : tie.Need-chain-requires Inv-loop μ-loop
+chain-requires c κs =
+    let t = c .before .before .before .before .before .before in
+    let v = t .before .loop .inv in
+    ((v .linked, few t, filling-unplaced (t .before .before .pre .0) v (t .loop-test .taken)), λ l e. (e, bit-zero l))
+
+loop-again-2 : tie.Need-loop-again-2 Inv-loop μ-loop
+loop-again-2 c =
+    let e = c .before .before .before .before .before .before in
+    let t = e .before .before in
+    filling-more (t .before .before .pre .0) (t .before .loop .inv) (t .loop-test .taken) (e .if1 .left) (c .before .chain .ensures .yes (c .if2 .taken))
 
 returns : tie.Need-returns Inv-loop μ-loop
 returns c = record {
-  yes = λ e. absurd (differ e (c .if1 .left));
-  no = λ e. blocked-more (c .before .before .loop-test .taken) (c .before .before .before .loop .inv .1) (c .before .extend .ensures .no e);
+  yes = λ z. absurd (differ z refl);
+  no = λ _.
+      let e = c .before .before .before .before .before .before in
+      let t = e .before .before in
+      let (same, _, _, ended) = c .before .chain .ensures .no (c .if2 .left) in
+      rw same (filling-blocked (t .before .before .pre .0) (t .before .loop .inv) (t .loop-test .taken) (e .if1 .left) ended);
 }
-
-add-u : tie.Need-add-u Inv-loop μ-loop
-add-u c = let t = c .before .before .before in omega (arith, t .loop-test .taken, t .before .before .before .pre .0 .2)
-
-loop-less : tie.Need-loop-less Inv-loop μ-loop
-loop-less c = omega (arith, c .before .before .before .loop-test .taken)
-
-loop-again : tie.Need-loop-again Inv-loop μ-loop
-loop-again c = (omega (arith, c .before .before .before .loop-test .taken), record { placing = c .before .before .extend .ensures .yes (c .before .if1 .taken) })
 
 returns-2 : tie.Need-returns-2 Inv-loop μ-loop
-returns-2 c = record {
-  yes = λ _. placed-end (c .before .loop .inv .0) (omega (arith, c .loop-test .left)) (c .before .loop .inv .1);
-  no = λ e. absurd (differ refl e);
-}
+returns-2 c = record { yes = λ _. filling-done (c .before .loop .inv) (omega (arith, c .loop-test .left)); no = λ z. absurd (differ refl z) }
 
 pub place-all-spec : {M : Type 1} → statement M
 place-all-spec =
@@ -55,10 +58,14 @@ place-all-spec =
     Inv-loop
     μ-loop
     loop-holds
-    add-extend
-    extend-requires
-    returns
-    add-u
-    loop-less
+    (λ c. omega (arith, few c))
+    (λ c. few c)
+    (λ c. omega (arith, c .before .before .loop-test .taken))
     loop-again
+    (λ c. omega (arith, few (c .before .before)))
+    (λ c. few (c .before .before))
+    chain-requires
+    (λ c. omega (arith, c .before .before .before .before .before .before .before .before .loop-test .taken))
+    loop-again-2
+    returns
     returns-2)

@@ -2,23 +2,24 @@
 use mathlib.Core.Path.{_≡_, refl, sym, ap, _∙_, subst}
 use mathlib.Core.Bool.{Bool, cond}
 use mathlib.Core.List.{List}
-use Prim.Native.Nat.{ℕ, _+_, _-_, _≤_, _<_}
+use Prim.Native.Nat.{ℕ, zero, suc, _≤_, _<_}
 use native.Mathlib.Omega.{arith}
 use borrow.Author.Needs.{needs}
 use denote.Ref.{now}
-use lib.ListN.{length}
+use lib.Dec.{lit<}
+use lib.ListN.{length, replicate}
 use Rattle.integers.specs.Places.{tabulate}
-use Rattle.instance.specs.Instance.{Instance, first, nodeCells}
+use Rattle.integers.specs.Words.{Words}
+use Rattle.instance.specs.Instance.{Instance}
+use Rattle.instance.specs.Readable.{Proper}
 use Rattle.instance.specs.Sheet.{instanceOf, refusalOf}
 use Rattle.instance.proofs.LaidOut.{LaidOut, refusal-is, laid-out}
-use Rattle.assignment.specs.Rows.{Node, Placed as PlacedIn}
 use Rattle.assignment.specs.First.{First}
-use Rattle.placing.specs.Tables.{entry, flag, rowsOf, Blocked}
-use Rattle.placing.specs.Laid.{Filled, Opens}
+use Rattle.placing.specs.Words.{entry, All, rank, caught, Laid, Answer}
 use Rattle.placing.specs.Placing.{Placed}
-use Rattle.placing.proofs.Laying.{filled-none, filled-rowed, filled-open}
-use Rattle.placing.proofs.Promised.{alike, unread, unfit, settled, obstructed}
-use Rattle.placing.proofs.Answers.{place-inside, first-listed, blocked-unlisted, blocked-obstruction}
+use Rattle.placing.proofs.Promised.{unread, unfit, settled, obstructed}
+use Rattle.placing.proofs.Answers.{rank-few, smallest-first, blocked-obstruction, blocked-none}
+use Rattle.placing.proofs.Linking.{words-none}
 use Rattle.placing.proofs.answer.place.Statement.{statement}
 use Rattle.placing.proofs.answer.place.Tie as tie
 
@@ -44,31 +45,52 @@ module _ (k : tie.Else2) where
   long : length (out (k .before)) ≡ instanceOf (s (k .before)) .nodeCount
   long = k .if2 .left ∙ laid (k .before) .nodes
 
--- the tables
-module _ (c : tie.After-open-places) where
-  abbrev read : tie.Else1
-  read = c .before .before .before .before .before .before
+  few : length (out (k .before)) ≤ 64
+  few = omega (arith, long, laid (k .before) .sound .proper .nodesFew)
 
+-- the words
+module _ (c : tie.After-lay-words) where
   abbrev fit : tie.Else2
   fit = c .before .before .before .before .before
+
+  abbrev read : tie.Else1
+  read = fit .before
 
   abbrev I : Instance
   I = instanceOf (s read)
 
-  abbrev slots : List ℕ
-  slots = c .before .before .lay-out .last .1 .1 .0
+  abbrev sets : List ℕ
+  sets = c .lay-words .last .1 .1 .1 .0
 
-  abbrev owners : List ℕ
-  owners = c .before .before .lay-out .last .1 .1 .1 .0
+  abbrev own : List Bool
+  own = c .lay-words .last .1 .1 .1 .1 .0
 
-  abbrev allowed : List Bool
-  allowed = c .open-places .result
+  proper : Proper I
+  proper = laid read .sound .proper
 
-  filled : Filled I (nodeCells I) slots owners
-  filled = c .before .before .lay-out .ensures
+  words : Laid I (I .nodeCount) sets own
+  words = subst (λ n. Laid I n sets own) (laid read .nodes) (c .lay-words .ensures)
 
-  opens : Opens (nodeCells I) allowed
-  opens = subst (λ k. Opens k allowed) (laid read .positions) (c .open-places .ensures)
+-- the answer
+module _ (r : tie.After-smallest) where
+  abbrev tables : tie.After-lay-words
+  tables = r .before .before .before
+
+  abbrev taken : List ℕ
+  taken = r .smallest .result .taken
+
+  abbrev answer : ℕ → Type 0
+  answer n = Answer n (sets tables) (own tables) (r .smallest .result .placed) taken (r .smallest .result .root) (r .smallest .result .seen)
+
+  -- what is written of it
+  abbrev positions : ℕ → List ℕ
+  positions n = tabulate n (λ u. rank (entry (sets tables) u) (entry taken u))
+
+  abbrev members : ℕ → List ℕ
+  members n = tabulate n (λ u. cond (caught (r .smallest .result .root) (r .smallest .result .seen) taken u) 1 0)
+
+  answered : answer (I tables .nodeCount)
+  answered = subst answer (laid (read tables) .nodes) (r .smallest .ensures)
 
 returns : tie.Need-returns
 returns c =
@@ -79,78 +101,55 @@ returns c =
 returns-2 : tie.Need-returns-2
 returns-2 c = let p = c .before in unfit (s p) (out p) (unrefused p) (λ e. c .if2 .taken (e ∙ sym (laid p .nodes)))
 
-lay-out-requires : tie.Need-lay-out-requires
-lay-out-requires c κs = let k = c .before .before in ((unrefused (k .before), laid (k .before) .nodes), filled-none _)
-
-open-places-requires : tie.Need-open-places-requires
-open-places-requires c κs = laid (c .before .before .before .before .before) .positionsFew
+lay-words-requires : tie.Need-lay-words-requires
+lay-words-requires c κs =
+    let p = c .before .before .before .before .before in
+    let l = laid p in
+    ((unrefused p, l .nodes, λ u h. l .starts u (omega (arith, l .nodes))), (refl, refl, words-none 64))
 
 smallest-requires : tie.Need-smallest-requires
-smallest-requires c κs =
-    let t = c .before .before .before .before in
-    let l = laid (read t) in
-    let p = l .sound .proper in
-    ((filled t .tables, filled-rowed p (filled t) (l .nodes) (l .starts), l .nodesFew, opens t .size), filled-open p (filled t) (l .nodesFew) (opens t))
+smallest-requires c κs = let k = c .before .before in (laid (read k) .nodesFew, words k .fit)
 
 -- all nodes are placed
 module _ (c : tie.Then3) where
-  abbrev tables : tie.After-open-places
-  tables = c .before .before .before .before .before .before
+  abbrev found : tie.After-smallest
+  found = c .before .before
 
-  abbrev at : ℕ → ℕ
-  at = entry (c .before .smallest .result .at)
-
-  placed : First (PlacedIn (rowsOf (I tables .nodeCount) (slots tables) (owners tables) (allowed tables)) (Node (rowsOf (I tables .nodeCount) (slots tables) (owners tables) (allowed tables)))) (I tables .nodeCount) at
-  placed = subst (λ n. First (PlacedIn (rowsOf n (slots tables) (owners tables) (allowed tables)) (Node (rowsOf n (slots tables) (owners tables) (allowed tables)))) n at) (laid (read tables) .nodes) (c .before .smallest .ensures .yes (c .if3 .taken))
+  placed : First (All (I (tables found) .nodeCount) (sets (tables found)) (own (tables found))) (I (tables found) .nodeCount) (entry (taken found))
+  placed = answered found .yes (c .if3 .taken)
 
 write-positions-requires : tie.Need-write-positions-requires
 write-positions-requires c κs =
-    let t = c .before .before .before .before in
-    let k = tables t in
-    let l = laid (read k) in
-    let z = long (fit k) in (
-      omega (arith, l .sound .proper .nodesFew),
-      λ u h.
-          let g : u < I k .nodeCount = omega arith in
-          let (a, b) = place-inside (l .sound .proper) (filled k) (opens k) (placed t .one) u g in
-          let d = placed t .one .allowed u g .0 in
-          let e = l .starts u g in
-          let f = l .sound .proper .few u g in
-          (omega arith, omega arith, d),
-    )
+    let t = c .before .before .before in
+    let k = tables (found t) in
+    let z = long (fit k) in
+    (few (fit k), λ u h. let g : u < I k .nodeCount = omega arith in rank-few (proper k) (words k) u _ g (placed t .one .allowed u g))
 
 returns-3 : tie.Need-returns-3
 returns-3 c =
     let w = c .before .before in
-    let t = w .before .before .before .before .before in
-    let k = tables t in
-    let l = laid (read k) in
+    let t = w .before .before .before .before in
+    let k = tables (found t) in
+    let p = read k in
     let z = long (fit k) in
-    let starts = read k .before .before .read .result .starts in
-    let (rest, q) = first-listed (l .sound .proper) (filled k) (opens k) (placed t) in
-    let e = w .write-positions .ensures ∙ ap (λ (n : ℕ). tabulate n (λ u. at t u - entry starts u)) z
-    ∙ alike (I k .nodeCount) (λ u. at t u - entry starts u) (λ u. at t u - first (I k) u) (λ u h. ap (λ (j : ℕ). at t u - j) (l .starts u h)) in
-    subst (λ x. Placed (s (read k)) (out (read k)) 0 x) (sym e) (settled (s (read k)) (out (read k)) (unrefused (read k)) z q)
+    let (rest, q) = smallest-first (proper k) (words k) (placed t) in
+    let e = w .write-positions .ensures ∙ ap (positions (found t)) z in
+    subst (λ x. Placed (s p) (out p) 0 x) (sym e) (settled (s p) (out p) (unrefused p) z q)
 
 write-members-requires : tie.Need-write-members-requires
-write-members-requires c κs =
-    let k = c .before .before .before .before .before .before .before .before .before in
-    let z = long (fit k) in
-    omega (arith, laid (read k) .sound .proper .nodesFew)
+write-members-requires c κs = few (fit (tables (c .before .before .before .before)))
 
 returns-4 : tie.Need-returns-4
 returns-4 c =
     let w = c .before .before in
-    let d = w .before .before .before .before in
-    let k = d .before .before .before .before .before .before in
-    let l = laid (read k) in
+    let d = w .before .before .before in
+    let r = d .before .before in
+    let k = tables r in
+    let p = read k in
     let z = long (fit k) in
-    let nodes = d .before .smallest .result .nodes in
-    let (seen, b) = d .before .smallest .ensures .no (d .if3 .left) in
-    let b′ = subst (λ n. Blocked (rowsOf n (slots k) (owners k) (allowed k)) nodes seen) (l .nodes) b in
-    let e = w .write-members .ensures ∙ ap (λ (n : ℕ). tabulate n (λ u. cond (flag nodes u) 1 0)) z in
-    subst (λ x. Placed (s (read k)) (out (read k)) 16 x) (sym e)
-    (obstructed (s (read k)) (out (read k)) (unrefused (read k)) z (blocked-unlisted (l .sound .proper) (filled k) (opens k) b′) (blocked-obstruction (l .sound .proper) (filled k) (opens k) b′))
+    let b = answered r .no (d .if3 .left) in
+    let e = w .write-members .ensures ∙ ap (members r) z in
+    subst (λ x. Placed (s p) (out p) 16 x) (sym e) (obstructed (s p) (out p) (unrefused p) z (blocked-none (proper k) (words k) b) (blocked-obstruction (proper k) (words k) b))
 
 pub place-spec : {M : Type 1} → statement M
 place-spec =
@@ -159,8 +158,7 @@ place-spec =
     (λ c κs. search needs)
     returns
     returns-2
-    lay-out-requires
-    open-places-requires
+    lay-words-requires
     smallest-requires
     write-positions-requires
     (λ c. search needs)

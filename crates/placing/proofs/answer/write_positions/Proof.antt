@@ -1,73 +1,75 @@
--- `write_positions` meets its contract: the bytes so far are those of the places.
-use Prim.Native.Nat.{ℕ, _+_, _-_, _≤_, _<_}
+-- `write_positions` meets its contract: the bytes so far are ranks.
+-- Assumes nothing.
+use Prim.Native.Nat.{ℕ, _+_, _-_, _<_}
+use mathlib.Core.Path.{_≡_, sym, subst}
+use mathlib.Core.List.{List}
 use native.Mathlib.Omega.{arith}
-use lib.ListN.{length}
+use lib.ListN.{length, set}
 use denote.Ref.{now}
 use Rattle.integers.proofs.Filling.{Filling, fill-none, fill-more, fill-all}
-use Rattle.placing.specs.Tables.{entry}
+use Rattle.placing.specs.Words.{entry, rank}
 use Rattle.placing.proofs.answer.write_positions.Statement.{statement}
 use Rattle.placing.proofs.answer.write_positions.Tie as tie
 
+abbrev ranks : List ℕ → List ℕ → ℕ → ℕ
+ranks sets taken u = rank (entry sets u) (entry taken u)
+
 abbrev Inv-loop : tie.InvT-loop
-Inv-loop at starts out₀ u₀ out u = Filling (λ w. entry at w - entry starts w) out₀ out u
+Inv-loop sets taken out₀ u₀ out u = Filling (ranks sets taken) out₀ out u
 
 abbrev μ-loop : tie.MeasureT-loop
-μ-loop at starts out₀ u₀ out u = length out₀ - u
+μ-loop sets taken out₀ u₀ out u = length out₀ - u
 
--- a node of the turn, and its place
+-- a node of the turn
 module _ (t : tie.In-loop Inv-loop μ-loop) where
-  inside : t .before .loop .u < length (now (t .before .before .args .out))
+  abbrev start : tie.Start Inv-loop μ-loop
+  start = t .before .before .before
+
+  abbrev u : ℕ
+  u = t .before .loop .u
+
+  inside : u < length (now (start .args .out))
   inside = omega (arith, t .loop-test .taken, t .before .loop .inv .long)
 
-  few : t .before .loop .u < 64
-  few = omega (arith, inside, t .before .before .pre .0)
-
-  place : let u = t .before .loop .u in let q = t .before .before .args in (entry (now (q .starts)) u ≤ entry (now (q .at)) u) × (entry (now (q .at)) u < entry (now (q .starts)) u + 16) × (entry (now (q .at)) u < 1024)
-  place = t .before .before .pre .1 (t .before .loop .u) inside
+  few : u < 64
+  few = omega (arith, inside, start .pre .0)
 
 loop-holds : tie.Need-loop-holds Inv-loop μ-loop
-loop-holds c = fill-none (λ w. entry (now (c .args .at)) w - entry (now (c .args .starts)) w) _
+loop-holds c = let q = c .before .args in fill-none (ranks (now (q .sets)) (now (q .taken))) _
 
-mul-out : tie.Need-mul-out Inv-loop μ-loop
-mul-out c = omega (arith, few c)
+mul-rank-of : tie.Need-mul-rank-of Inv-loop μ-loop
+mul-rank-of c = omega (arith, few c)
 
-element-copy-out-out : tie.Need-element-copy-out-out Inv-loop μ-loop
-element-copy-out-out c = few c
+element-copy-out-rank-of : tie.Need-element-copy-out-rank-of Inv-loop μ-loop
+element-copy-out-rank-of c = few c
 
-cast-out : tie.Need-cast-out Inv-loop μ-loop
-cast-out c = omega (arith, place (c .before) .2)
+element-copy-out-rank-of-2 : tie.Need-element-copy-out-rank-of-2 Inv-loop μ-loop
+element-copy-out-rank-of-2 c = few (c .before)
 
-mul-out-2 : tie.Need-mul-out-2 Inv-loop μ-loop
-mul-out-2 c = omega (arith, few (c .before))
-
-element-copy-out-out-2 : tie.Need-element-copy-out-out-2 Inv-loop μ-loop
-element-copy-out-out-2 c = few (c .before)
-
-sub-out : tie.Need-sub-out Inv-loop μ-loop
-sub-out c = place (c .before .before) .0
-
-cast-out-2 : tie.Need-cast-out-2 Inv-loop μ-loop
-cast-out-2 c = let p = place (c .before .before) in omega (arith, p .0, p .1)
+rank-of-requires : tie.Need-rank-of-requires Inv-loop μ-loop
+rank-of-requires c κs = let t = c .before .before in omega (arith, start t .pre .1 (u t) (inside t))
 
 slice-write-out : tie.Need-slice-write-out Inv-loop μ-loop
-slice-write-out c = c .before .before .loop-test .taken
+slice-write-out c = c .before .before .before .loop-test .taken
 
 add-u : tie.Need-add-u Inv-loop μ-loop
-add-u c = omega (arith, few (c .before .before))
+add-u c = omega (arith, few (c .before .before .before))
 
 loop-less : tie.Need-loop-less Inv-loop μ-loop
-loop-less c = omega (arith, inside (c .before .before))
+loop-less c = omega (arith, inside (c .before .before .before))
 
 loop-again : tie.Need-loop-again Inv-loop μ-loop
 loop-again c =
-    let t = c .before .before in
-    let q = t .before .before .args in fill-more (λ w. entry (now (q .at)) w - entry (now (q .starts)) w) 0 (t .before .loop .inv) (inside t)
+    let t = c .before .before .before in
+    let q = start t .args in
+    let f = ranks (now (q .sets)) (now (q .taken)) in
+    subst (λ r. Filling f (now (q .out)) (set (t .before .loop .out) (u t) r) (u t + 1)) (sym (c .rank-of .ensures)) (fill-more f 0 (t .before .loop .inv) (inside t))
 
 same-length : tie.Need-same-length Inv-loop μ-loop
 same-length c = c .before .loop .inv .long
 
 returns : tie.Need-returns Inv-loop μ-loop
-returns c = let q = c .before .before .args in fill-all (λ w. entry (now (q .at)) w - entry (now (q .starts)) w) (c .before .loop .inv) (omega (arith, c .loop-test .left, c .before .loop .inv .long))
+returns c = let q = c .before .before .before .args in fill-all (ranks (now (q .sets)) (now (q .taken))) (c .before .loop .inv) (omega (arith, c .loop-test .left, c .before .loop .inv .long))
 
 pub write-positions-spec : {M : Type 1} → statement M
 write-positions-spec =
@@ -76,13 +78,10 @@ write-positions-spec =
     Inv-loop
     μ-loop
     loop-holds
-    mul-out
-    element-copy-out-out
-    cast-out
-    mul-out-2
-    element-copy-out-out-2
-    sub-out
-    cast-out-2
+    mul-rank-of
+    element-copy-out-rank-of
+    element-copy-out-rank-of-2
+    rank-of-requires
     slice-write-out
     add-u
     loop-less

@@ -1,35 +1,26 @@
--- `smallest` meets its contract: what it calls says it.
+-- `smallest` meets its contract: the first free labels if they do, else chains.
 use mathlib.Core.Path.{refl}
-use borrow.Author.Needs.{needs}
+use lib.ListN.{getD-replicate}
+use Prim.Native.Nat.{ℕ}
 use Rattle.assignment.proofs.Counts.{differ}
-use Rattle.placing.proofs.Taken.{taking-done}
+use Rattle.placing.proofs.Linking.{linked-none}
 use Rattle.placing.proofs.smallest.smallest.Statement.{statement}
 use Rattle.placing.proofs.smallest.smallest.Tie as tie
 
-take-first-requires : tie.Need-take-first-requires
-take-first-requires c κs = let q = c .pre in ((q .0 .0, q .0 .1, q .0 .2), q .1)
-
 returns : tie.Need-returns
-returns c =
-    let k = c .before .before in
-    let t = k .before .before in
-    let q = t .before .pre .0 in
-    record { yes = λ _. taking-done (q .2) (q .0) (t .take-first .ensures) (k .if1 .taken); no = λ e. absurd (differ refl e) }
+returns c = record { yes = λ _. c .before .take-first .ensures (c .if1 .taken); no = λ e. absurd (differ refl e) }
 
 place-all-requires : tie.Need-place-all-requires
-place-all-requires c κs =
-    let t = c .before .before in
-    let q = t .before .pre .0 in
-    ((q .0, q .1, q .2, t .take-first .ensures .within), t .take-first .ensures .all)
+place-all-requires c κs = let q = c .before .before .before .before .before .before .pre in (q .0, linked-none (q .1), λ u h. getD-replicate {A = ℕ} 64 u 255 0 h)
 
-settle-requires : tie.Need-settle-requires
-settle-requires c κs = let r = c .before in (r .before .before .before .before .pre .0, r .place-all .ensures .yes (c .if2 .taken))
+lower-all-requires : tie.Need-lower-all-requires
+lower-all-requires c κs = let t = c .before .before .before in (t .before .place-all .ensures .yes (t .if2 .taken) .0, t .before .before .before .before .before .before .before .before .pre .0)
 
 returns-2 : tie.Need-returns-2
-returns-2 c = record { yes = λ _. c .settle .ensures; no = λ e. absurd (differ refl e) }
+returns-2 c = let t = c .before .before .before .before in record { yes = λ _. c .lower-all .ensures _ (t .before .place-all .ensures .yes (t .if2 .taken) .1); no = λ e. absurd (differ refl e) }
 
 returns-3 : tie.Need-returns-3
-returns-3 c = let k = c .before in record { yes = λ e. absurd (differ e refl); no = λ _. (k .before .place-all .result .seen, k .before .place-all .ensures .no (k .if2 .left)) }
+returns-3 c = record { yes = λ e. absurd (differ e refl); no = λ _. c .before .place-all .ensures .no (c .if2 .left) }
 
 pub smallest-spec : {M : Type 1} → statement M
-smallest-spec = tie.close (tie.spec take-first-requires returns place-all-requires settle-requires returns-2 returns-3)
+smallest-spec = tie.close (tie.spec (λ c κs. let q = c .before .pre in (q .0, q .1, refl)) returns place-all-requires lower-all-requires returns-2 returns-3)
