@@ -14,14 +14,15 @@ use Rattle.integers.proofs.Places.{by-test, or-split, left-true, right-true}
 use Rattle.assignment.specs.Rows.{In, but, count}
 use Rattle.assignment.specs.First.{Agree}
 use Rattle.assignment.proofs.Counts.{differ, but-true, true-but, count-but, pigeonhole}
-use Rattle.placing.specs.Words.{entry, flag, All, seenBy, Trail, Exhausted, Held, Vacant, Barred}
+use Rattle.placing.specs.Words.{entry, flag, All, seenBy, Trail, Exhausted}
 use Rattle.placing.proofs.Searching.{fails, seen-outside}
+use Rattle.placing.proofs.Holding.{Held, Vacant, holder-of, word-at}
 use Rattle.placing.proofs.Slots.{opens-solid, same-slot}
 
--- the word at the label of a node is the node's
-pub word-at : {sets : List ℕ} {own : List Bool} {m root : ℕ} {taken holders reach : List ℕ} {free : ℕ} → Held sets own m root taken holders reach free
-    → (u : ℕ) → u < m → (u ≡ root → ⊥) → entry taken u < 64 → entry reach (entry taken u) ≡ entry sets u
-word-at {sets} {taken = taken} h u l d k = let (a, b) = h .taker u l d k in h .held (entry taken u) k a .3 ∙ ap (entry sets) b
+-- no placing that agrees with `taken` below u gives u a label of `seen`, or one of them to a node that does not take one now
+abbrev pub Barred : ℕ → List ℕ → List Bool → ℕ → List ℕ → ℕ → Type 0
+Barred n sets own u taken seen = (q : ℕ → ℕ) → All n sets own q → Agree u (entry taken) q
+    → (w : ℕ) → w < n → bit seen (q w) ≡ true → (w ≡ u → ⊥) × (bit seen (entry taken w) ≡ true)
 
 -- two nodes have not the same label
 label-once : (n : ℕ) (sets : List ℕ) (own : List Bool) {q : ℕ → ℕ} → All n sets own q → (v w : ℕ) → v < n → w < n → q w < 64 → q v ≡ q w → v ≡ w
@@ -54,7 +55,7 @@ module _ {sets : List ℕ} {own : List Bool} {n u : ℕ} {taken holders reach : 
 
   each-held : count 64 T ≤ count n H
   each-held = pigeonhole (λ l h. entry taken h ≡ l) (λ l m h e f. sym e ∙ f) 64 n T H
-      (λ l k e. let (a, b, c, d) = held .held l k (ended .held l e) in
+      (λ l k e. let (a, b, c, d) = holder-of held l k (ended .held l e) in
       let h = entry holders l in (h, a, but-true (λ h. T (entry taken h)) u h (ap T c ∙ e) b, c))
 
   -- such a node has no 255
@@ -75,7 +76,7 @@ module _ {sets : List ℕ} {own : List Bool} {n u : ℕ} {taken holders reach : 
     stays h k e =
         let (t, d) = true-but (λ h. T (entry taken h)) u h e in
         let (s, b) = opens-solid sets own h (no-own h k e) (q h) (p .allowed h k) in
-        let f = ended .exits (entry taken h) (q h) t (ap (λ (w : ℕ). bit w (q h)) (word-at held h k d (trail .small (entry taken h) t)) ∙ b) in
+        let f = ended .exits (entry taken h) (q h) t (ap (λ (w : ℕ). bit w (q h)) (word-at held h k (trail .small (entry taken h) t)) ∙ b) in
         ⊎-elim (λ (g : bit before (q h) ≡ true). absurd (differ (barred q p agree h k g .1) (outside (entry taken h) t))) (λ (g : In T (q h)). g)
         (or-split (bit before (q h)) (T (q h)) (sym (ended .all (q h)) ∙ f))
 

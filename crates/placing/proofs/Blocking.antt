@@ -15,10 +15,10 @@ use Rattle.assignment.specs.Rows.{In, But, but, count, put, Node, Placed}
 use Rattle.assignment.proofs.Counts.{differ, but-true, count-but, pigeonhole, put-other}
 use Rattle.assignment.proofs.Halls.{placed-part}
 use Rattle.assignment.proofs.Shifts.{placed-put}
-use Rattle.placing.specs.Words.{entry, flag, opens, slotOf, rowsOf, seenBy, Trail, Exhausted, Held, Vacant, Blocked, caught}
+use Rattle.placing.specs.Words.{entry, flag, opens, slotOf, rowsOf, seenBy, Trail, Exhausted, Blocked, caught}
 use Rattle.placing.proofs.Searching.{fails, or-fails, seen-later, seen-begin}
 use Rattle.placing.proofs.Slots.{opens-bit, opens-solid, slot-label}
-use Rattle.placing.proofs.Barring.{word-at}
+use Rattle.placing.proofs.Holding.{Held, Vacant, holder-of, held-by, word-at}
 
 -- the same place among more nodes, or fewer
 pub placed-rows : (m n : ℕ) (sets : List ℕ) (own : List Bool) {D E : ℕ → Type 0} {p : ℕ → ℕ} → ((u : ℕ) → D u → E u)
@@ -57,7 +57,7 @@ module _ {sets : List ℕ} {own : List Bool} {root : ℕ} {taken holders reach :
   taken-at s l h e =
       let f = seen-later (entry sets root) words s count′ l h e in
       let k = trail .small l f in
-      let (a, b, c, d) = held .held l k (ended .held l f) in
+      let (a, b, c, d) = holder-of held l k (ended .held l f) in
       record { small = k; node = a; other = b; takes = c; word = d }
 
   -- ---- without any one of them the rest can be placed
@@ -141,7 +141,7 @@ module _ {sets : List ℕ} {own : List Bool} {root : ℕ} {taken holders reach :
       let d : u ≡ root → ⊥ = (λ z. omega arith) in
       let none = fails (flag own u) (λ y. let g = vacant u (omega arith) (omega arith) d y in omega arith) in
       let (a, b) = opens-solid sets own u none k o in
-      (a, ended .exits (entry taken u) k f (ap (λ (w : ℕ). bit w k) (word-at held u (omega arith) d small) ∙ b)))
+      (a, ended .exits (entry taken u) k f (ap (λ (w : ℕ). bit w k) (word-at held u (omega arith) small) ∙ b)))
 
   below-root : (u : ℕ) → In R u → u < root + 1
   below-root u e = caught-cases u e (λ q. omega arith) (λ h _. omega arith)
@@ -160,7 +160,7 @@ module _ {sets : List ℕ} {own : List Bool} {root : ℕ} {taken holders reach :
         (λ y. (entry taken, placed-rows (root + 1) n sets own (λ u d. (below-root u (d .0), λ z. d .1 (z ∙ sym y))) (held .placed)))
         (λ h s. let f : found count′ (entry taken x) ≡ true = sym (seen-is (entry taken x)) ∙ s in
         let r = spared count′ (entry taken x) (omega arith) f in
-        let same = held .taker x (omega arith) (λ z. omega arith) (trail .small (entry taken x) f) .1 in
+        let same = held-by held x (omega arith) (trail .small (entry taken x) f) in
         (r .q, placed-rows (root + 1) n sets own (λ u d. (below-root u (d .0), λ z. d .1 (z ∙ same))) (r .placed)))
 
     pub caught-blocked : Blocked (rowsOf n sets own) (caught root seen taken)

@@ -7,6 +7,7 @@ pub mod Taking
 pub mod Searching
 pub mod Linking
 pub mod Moving
+pub mod Holding
 pub mod Barring
 pub mod Blocking
 pub mod Seating

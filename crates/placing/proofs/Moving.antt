@@ -16,7 +16,7 @@ use Rattle.integers.specs.Words.{bit}
 use Rattle.integers.proofs.Places.{by-test, or-split, right-true}
 use Rattle.integers.proofs.Words.{bit-or, bit-own, bit-other, bit-power, bit-dropped, bit-kept, power-fits}
 use Rattle.assignment.proofs.Counts.{differ, by-same}
-use Rattle.placing.specs.Words.{entry, seenBy, Trail, Linked, Stays, Meeting, Shifted, Searched, Chained}
+use Rattle.placing.specs.Words.{entry, seenBy, Trail, Linked, Stays, Asked, Meeting, Shifted, Searched, Chained}
 use Rattle.placing.proofs.Searching.{seen-later, seen-begin, seen-outside, trail-none, both-bits}
 use Rattle.placing.proofs.Linking.{linked-take}
 
@@ -55,9 +55,9 @@ module _ {sets taken holders reach : List ℕ} {free start before : ℕ} {by wor
     apart = λ t h e. differ (m .free-label) (ap (bit free) (sym e) ∙ m .trail .from t h .1);
     same = λ t h. refl;
     stays = λ w d. inl refl;
-    unplaced = m .unplaced;
+    unplaced = m .asked .unplaced;
     word = free;
-    linked = m .linked;
+    linked = m .asked .linked;
     here = m .free-label;
     gone = bit-dropped free label (m .free-label);
     rest = λ x h d. sym (bit-kept free label x d);
@@ -152,8 +152,8 @@ module _ {sets taken holders reach : List ℕ} {free start before : ℕ} {by wor
     pub moving-done : i ≡ 0 → Shifted sets taken free start before label root (set taken′ root l) (set holders′ l root) (set reach′ l (entry sets root))
     unfolding seenBy
     moving-done z = record {
-      linked = linked-take (v .linked) (m .node) moving-small (v .here) (m .own l start-has)
-          (xor-lt 64 free (2 ^ label) (m .linked .fit-free) (power-fits label (seen-small (m .trail) count label (omega arith) (m .met)))) (v .gone)
+      linked = linked-take (v .linked) (m .asked .node) moving-small (v .here) (m .asked .labels l start-has .0)
+          (xor-lt 64 free (2 ^ label) (m .asked .linked .fit-free) (power-fits label (seen-small (m .trail) count label (omega arith) (m .met)))) (v .gone)
           (λ x g d. sym (v .rest x g d) ∙ sym (ap (_||_ (bit (v .word) x)) (ne-eqb x (entry taken′ root) (λ q. omega (arith, v .unplaced))) ∙ or-false (bit (v .word) x)));
       rooted = rw at start-has;
       stays = λ w d. let o = getD-set-other taken′ root w l 0 d in ⊎-elim (λ q. inl (o ∙ q)) (λ (a, b, c). inr (a, b, rw o c)) (v .stays w d);
@@ -163,21 +163,14 @@ module _ {sets taken holders reach : List ℕ} {free start before : ℕ} {by wor
         start-has = subst (λ j. seenBy start words j l ≡ true) z (v .found)
 
         at : entry (set taken′ root l) root ≡ l
-        at = getD-set-same taken′ root l 0 (omega (arith, m .node, v .linked .size-taken))
+        at = getD-set-same taken′ root l 0 (omega (arith, m .asked .node, v .linked .size-taken))
 
 -- ---- a chain: what is asked, and what comes of it
-
--- the root takes no label, and is to take one of its word that is in `start`
-pub record Asked (sets taken holders reach : List ℕ) (free start before root : ℕ) : Type 0 where
-  pub linked : Linked sets taken holders reach free
-  pub node : root < 64
-  pub unplaced : 64 ≤ entry taken root
-  pub labels : (l : ℕ) → bit start l ≡ true → (bit (entry sets root) l ≡ true) × (bit before l ≡ false)
 
 module _ {sets taken holders reach : List ℕ} {free start before root : ℕ} (a : Asked sets taken holders reach free start before root) where
   pub asked-meeting : {by words : List ℕ} {count label : ℕ} → Trail reach free start before by words count → seenBy start words count label ≡ true → bit free label ≡ true
       → Meeting sets taken holders reach free start before by words count label root
-  asked-meeting t e f = record { linked = a .linked; trail = t; met = e; free-label = f; node = a .node; unplaced = a .unplaced; own = λ l h. a .labels l h .0 }
+  asked-meeting t e f = record { asked = a; trail = t; met = e; free-label = f }
 
   -- a label of `start` is free
   module _ (fit : start < 2 ^ 64) (z : bitAnd start free ≡ 0 → ⊥) {l : ℕ} (q : l ≡ trailingZeros 64 (bitAnd start free)) where

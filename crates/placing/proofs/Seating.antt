@@ -14,43 +14,9 @@ use Rattle.integers.proofs.Places.{by-test}
 use Rattle.integers.proofs.Words.{bit-small, bit-zero}
 use Rattle.assignment.specs.Rows.{But, Node, Placed}
 use Rattle.assignment.proofs.Counts.{differ, by-same}
-use Rattle.placing.specs.Words.{entry, flag, opens, slotOf, rowsOf, All, Linked, Held, Seated, Stays, Ended, Blocked, caught}
-use Rattle.placing.proofs.Slots.{opens-kinds, opens-bit, opens-own, same-label}
-use Rattle.placing.proofs.Linking.{linked-distinct}
+use Rattle.placing.specs.Words.{entry, flag, rowsOf, Linked, Seated, Stays, Ended, Blocked, caught}
+use Rattle.placing.proofs.Holding.{Held, linked-held}
 use Rattle.placing.proofs.Blocking.{caught-blocked}
-
-module _ {sets : List ℕ} (own : List Bool) {taken holders reach : List ℕ} {free : ℕ} (k : Linked sets taken holders reach free) where
-  -- some of the nodes
-  linked-placed : (m : ℕ) (D : ℕ → Type 0) → ((u : ℕ) → D u → u < 64) → ((u : ℕ) → D u → 64 ≤ entry taken u → (entry taken u ≡ 255) × (flag own u ≡ true)) → Placed (rowsOf m sets own) D (entry taken)
-  linked-placed m D few seat = record {
-    allowed = may;
-    distinct = λ u w d d′ e. ⊎-elim (λ (h, q). linked-distinct k u w (few u d) (few w d′) h q) (λ q. q)
-        (same-label (opens-kinds sets own u (entry taken u) (may u d)) (opens-kinds sets own w (entry taken w) (may w d′)) e);
-  }
-    where
-      may : (u : ℕ) → D u → opens sets own u (entry taken u) ≡ true
-      may u d = by-test (ltb (entry taken u) 64)
-          (λ e. let h = ltb-true (entry taken u) 64 e in opens-bit sets own u (entry taken u) h ∙ k .inside u (few u d) h)
-          (λ e. let (a, b) = seat u d (ltb-false (entry taken u) 64 e) in rw a (opens-own sets own u ∙ b))
-
-  pub linked-all : {since n : ℕ} → n ≤ 64 → Seated own since n taken → All n sets own (entry taken)
-  linked-all {since} {n} few s = linked-placed n (Node (rowsOf n sets own)) (λ u d. omega arith) (λ u d. s .seat u d)
-
-  -- all but the root, which takes none
-  pub linked-held : {m root : ℕ} → m ≤ 64 → ((u : ℕ) → u < m → (u ≡ root → ⊥) → 64 ≤ entry taken u → (entry taken u ≡ 255) × (flag own u ≡ true))
-      → ((u : ℕ) → u < 64 → entry taken u < 64 → u < m) → 64 ≤ entry taken root → Held sets own m root taken holders reach free
-  linked-held {m} {root} few seat inner none = record {
-    few = few;
-    size-taken = k .size-taken;
-    size-holders = k .size-holders;
-    size-reach = k .size-reach;
-    fit-sets = k .fit-sets;
-    fit-reach = k .fit-reach;
-    fit-free = k .fit-free;
-    placed = linked-placed m (But (Node (rowsOf m sets own)) root) (λ u d. omega (arith, d .0)) (λ u d. seat u (d .0) (d .1));
-    taker = λ u h d l. k .taker u (omega arith) l;
-    held = λ l h e. let (a, b, c) = k .held l h e in (inner (entry holders l) a (omega arith), λ q. omega (arith, ap (entry taken) q), b, c);
-  }
 
 -- ---- one node after another
 

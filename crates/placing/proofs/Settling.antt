@@ -18,12 +18,12 @@ use Rattle.integers.proofs.Words.{bit-small, bit-zero, bit-own, bit-without, lo
 use Rattle.assignment.specs.First.{First, Agree, None, Settled}
 use Rattle.assignment.proofs.Counts.{differ, by-same}
 use Rattle.assignment.proofs.Firsts.{settled-none, settled-more, settled-first}
-use Rattle.placing.specs.Words.{entry, flag, opens, All, Linked, Held, Seated, seenBy, Stays, Ended, Barred, Lowered, Lowest}
+use Rattle.placing.specs.Words.{entry, flag, opens, All, Linked, Seated, seenBy, Stays, Ended, Lowered, Lowest}
 use Rattle.placing.proofs.Searching.{fails, seen-later, seen-begin}
 use Rattle.placing.proofs.Slots.{opens-kinds, opens-bit}
 use Rattle.placing.proofs.Linking.{linked-leave}
-use Rattle.placing.proofs.Seating.{linked-held, linked-all}
-use Rattle.placing.proofs.Barring.{barred-settled, barred-more}
+use Rattle.placing.proofs.Holding.{Held, linked-held, linked-all}
+use Rattle.placing.proofs.Barring.{Barred, barred-settled, barred-more}
 
 -- ---- the labels of u from the lowest on: those of `seen` are barred, those of `rest` are left
 

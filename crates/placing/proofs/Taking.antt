@@ -29,8 +29,8 @@ set-put t u k h = fun-ext (λ w. by-same w u
     (λ e. put-other (entry t) u k w e ∙ sym (getD-set-other t u w k 0 e)))
 
 -- the lowest label of a word
-abbrev pub Lowest : ℕ → ℕ → Type 0
-Lowest w l = (l < 64) × (bit w l ≡ true) × ((x : ℕ) → x < l → bit w x ≡ false)
+abbrev pub Least : ℕ → ℕ → Type 0
+Least w l = (l < 64) × (bit w l ≡ true) × ((x : ℕ) → x < l → bit w x ≡ false)
 
 -- The nodes below u are placed, each as low as it can be; a label is not free exactly if one of them takes it.
 pub record Taking (n : ℕ) (sets : List ℕ) (own : List Bool) (taken : List ℕ) (free u : ℕ) : Type 0 where
@@ -107,7 +107,7 @@ module _ {n : ℕ} {sets : List ℕ} {own : List Bool} {taken : List ℕ} {free 
       }
 
     -- u takes its lowest open label
-    pub taking-more : {l : ℕ} → Lowest (bitAnd (entry sets u) free) l → Taking n sets own (set taken u l) (bitXor free (2 ^ l)) (u + 1)
+    pub taking-more : {l : ℕ} → Least (bitAnd (entry sets u) free) l → Taking n sets own (set taken u l) (bitXor free (2 ^ l)) (u + 1)
     taking-more {l} (s, o, lower) =
         let (b, v) = and-true (bit (entry sets u) l) (bit free l) (sym (bit-and (entry sets u) free l) ∙ o) in
         taking-step (opens-bit sets own u l s ∙ b) (λ _. v) (λ q m a g. differ (open-at m a (omega arith)) (lower (q u) g))

@@ -129,15 +129,19 @@ pub record Ended (reach : List ℕ) (free start before seen : ℕ) : Type 0 wher
   pub trail : Trail reach free start before by words count
   pub exhausted : Exhausted reach free start before words count seen
 
--- a search met a free label: the root, which takes none, is to take a label of its word that is in `start`
-pub record Meeting (sets taken holders reach : List ℕ) (free start before : ℕ) (by words : List ℕ) (count label root : ℕ) : Type 0 where
+-- the root, which takes none, is to take a label of its word that is in `start` and not in `before`
+pub record Asked (sets taken holders reach : List ℕ) (free start before root : ℕ) : Type 0 where
   pub linked : Linked sets taken holders reach free
+  pub node : root < 64
+  pub unplaced : 64 ≤ entry taken root
+  pub labels : (l : ℕ) → bit start l ≡ true → (bit (entry sets root) l ≡ true) × (bit before l ≡ false)
+
+-- a search met a free label
+pub record Meeting (sets taken holders reach : List ℕ) (free start before : ℕ) (by words : List ℕ) (count label root : ℕ) : Type 0 where
+  pub asked : Asked sets taken holders reach free start before root
   pub trail : Trail reach free start before by words count
   pub met : seenBy start words count label ≡ true
   pub free-label : bit free label ≡ true
-  pub node : root < 64
-  pub unplaced : 64 ≤ entry taken root
-  pub own : (l : ℕ) → bit start l ≡ true → bit (entry sets root) l ≡ true
 
 -- what moves along the trail leave
 pub record Shifted (sets taken : List ℕ) (free start before label root : ℕ) (taken′ holders′ reach′ : List ℕ) : Type 0 where
@@ -161,30 +165,7 @@ pub record Stopped (n : ℕ) (sets : List ℕ) (own : List Bool) (taken holders 
   pub yes : placed ≡ true → Linked sets taken holders reach free × Seated own 0 n taken
   pub no : placed ≡ false → Blocked (rowsOf n sets own) (caught root seen taken)
 
--- ---- placings in tables
-
--- the nodes below m but the root have a place; a label that is not free has a holder, and `reach` has the holder's word
-pub record Held (sets : List ℕ) (own : List Bool) (m root : ℕ) (taken holders reach : List ℕ) (free : ℕ) : Type 0 where
-  pub few : m ≤ 64
-  pub size-taken : length taken ≡ 64
-  pub size-holders : length holders ≡ 64
-  pub size-reach : length reach ≡ 64
-  pub fit-sets : Words sets
-  pub fit-reach : Words reach
-  pub fit-free : free < 2 ^ 64
-  pub placed : Placed (rowsOf m sets own) (But (Node (rowsOf m sets own)) root) (entry taken)
-  pub taker : (u : ℕ) → u < m → (u ≡ root → ⊥) → entry taken u < 64 → (bit free (entry taken u) ≡ false) × (entry holders (entry taken u) ≡ u)
-  pub held : (l : ℕ) → l < 64 → bit free l ≡ false
-      → (entry holders l < m) × (entry holders l ≡ root → ⊥) × (entry taken (entry holders l) ≡ l) × (entry reach l ≡ entry sets (entry holders l))
-
--- nodes from `since` on that have 255 take it
-abbrev pub Vacant : List Bool → ℕ → ℕ → ℕ → List ℕ → Type 0
-Vacant own since m root taken = (u : ℕ) → since ≤ u → u < m → (u ≡ root → ⊥) → flag own u ≡ true → entry taken u ≡ 255
-
--- no placing that agrees with `taken` below u gives u a label of `seen`, or one of them to a node that does not take one now
-abbrev pub Barred : ℕ → List ℕ → List Bool → ℕ → List ℕ → ℕ → Type 0
-Barred n sets own u taken seen = (q : ℕ → ℕ) → All n sets own q → Agree u (entry taken) q
-    → (w : ℕ) → w < n → bit seen (q w) ≡ true → (w ≡ u → ⊥) × (bit seen (entry taken w) ≡ true)
+-- ---- the smallest placing
 
 -- All nodes are seated, and those below u where they are to be: no placing that agrees on the nodes below one of these gives it a lower label. `closed` has their labels.
 pub record Lowered (n : ℕ) (sets : List ℕ) (own : List Bool) (taken : List ℕ) (closed u : ℕ) : Type 0 where

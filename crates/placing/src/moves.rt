@@ -5,11 +5,9 @@ use crate::words::bit_of;
 use crate::words::has;
 use crate::words::lowest;
 ghost use mathlib.Core.Path.{_≡_};
-ghost use mathlib.Core.Bool.{true, false};
-ghost use Prim.Native.Nat.{ℕ, _≤_, _<_};
+ghost use Prim.Native.Nat.{ℕ, _<_};
 ghost use lib.ListN.{set};
-ghost use Rattle.integers.specs.Words.{bit};
-ghost use Rattle.placing.specs.Words.{entry, Linked, Meeting, Shifted, Chained};
+ghost use Rattle.placing.specs.Words.{entry, Asked, Meeting, Shifted, Chained};
 
 // Node `u` takes the label `l`.
 fn give(
@@ -75,8 +73,7 @@ pub(crate) fn chain(
     before: u64,
     root: usize,
 ) -> Link
-    requires { ⌜ Linked (now sets) (now taken) (now holders) (now reach) free × (root < 64) × (64 ≤ entry (now taken) root) ⌝ }
-    requires { ⌜ ((l : ℕ) → bit start l ≡ true → (bit (entry (now sets) root) l ≡ true) × (bit before l ≡ false)) ⌝ }
+    requires { ⌜ Asked (now sets) (now taken) (now holders) (now reach) free start before root ⌝ }
     ensures { λ r. ⌜ Chained (now (sets .entry)) (now (taken .entry)) (now (holders .entry)) (now (reach .entry)) free start before root (now (taken .exit)) (now (holders .exit)) (now (reach .exit)) (r .found) (r .free) (r .seen) ⌝ }
 {
     let met = start & free;

@@ -30,7 +30,7 @@ chain-requires : tie.Need-chain-requires Inv-loop μ-loop
 chain-requires c κs =
     let t = c .before .before .before .before .before .before in
     let v = t .before .loop .inv in
-    ((v .linked, few t, filling-unplaced (t .before .before .pre .0) v (t .loop-test .taken)), λ l e. (e, bit-zero l))
+    record { linked = v .linked; node = few t; unplaced = filling-unplaced (t .before .before .pre .0) v (t .loop-test .taken); labels = λ l e. (e, bit-zero l) }
 
 loop-again-2 : tie.Need-loop-again-2 Inv-loop μ-loop
 loop-again-2 c =

@@ -8,7 +8,7 @@ use lib.ListN.{set}
 use Rattle.integers.proofs.Words.{lowest}
 use Rattle.assignment.proofs.Counts.{differ}
 use Rattle.placing.specs.Words.{entry}
-use Rattle.placing.proofs.Taking.{Taking, Lowest, taking-none, taking-more, taking-last, taking-done}
+use Rattle.placing.proofs.Taking.{Taking, Least, taking-none, taking-more, taking-last, taking-done}
 use Rattle.placing.proofs.greedy.take_first.Statement.{statement}
 use Rattle.placing.proofs.greedy.take_first.Tie as tie
 
@@ -37,8 +37,8 @@ module _ (c : tie.After-lowest Inv-loop μ-loop) where
   abbrev turn : tie.In-loop Inv-loop μ-loop
   turn = c .before .before .before
 
-  low : Lowest (opened turn) (c .lowest .result)
-  low = subst (Lowest (opened turn)) (sym (c .lowest .ensures))
+  low : Least (opened turn) (c .lowest .result)
+  low = subst (Least (opened turn)) (sym (c .lowest .ensures))
       (lowest (opened turn) (omega (arith, and-le-l (entry (now (start turn .args .sets)) (u turn)) (turn .before .loop .free), start turn .pre .1 (u turn))) (c .before .if1 .taken))
 
 loop-holds : tie.Need-loop-holds Inv-loop μ-loop

@@ -85,10 +85,13 @@ chain-requires c κs =
     let t = c .before .before .before .before .before in
     let s = start (head t) in
     let (a, b, d, v) = head t .loop .inv in
-    let e = c .before .before .before .bit-of .ensures in (
-      (transport (λ j. Linked (now (s .args .sets)) (set (sym a j) (s .args .u) 255) (sym b j) (sym d j) (vacant (head t))) (v .linked), s .pre .1, subst (λ x. 64 ≤ entry (set x (s .args .u) 255) (s .args .u)) (sym a) (trying-unplaced (s .pre .0) (s .pre .1) v)),
-      λ l z. let y = bit-only (t .lowest .result) l (ap (λ (w : ℕ). bit w l) (sym e) ∙ z) in trying-label (s .pre .0) (s .pre .1) v l (ap (bit (head t .loop .rest)) y ∙ has-it t),
-    )
+    let e = c .before .before .before .bit-of .ensures in
+    record {
+      linked = transport (λ j. Linked (now (s .args .sets)) (set (sym a j) (s .args .u) 255) (sym b j) (sym d j) (vacant (head t))) (v .linked);
+      node = s .pre .1;
+      unplaced = subst (λ x. 64 ≤ entry (set x (s .args .u) 255) (s .args .u)) (sym a) (trying-unplaced (s .pre .0) (s .pre .1) v);
+      labels = λ l z. let y = bit-only (t .lowest .result) l (ap (λ (w : ℕ). bit w l) (sym e) ∙ z) in trying-label (s .pre .0) (s .pre .1) v l (ap (bit (head t .loop .rest)) y ∙ has-it t);
+    }
 
 returns-2 : tie.Need-returns-2 Inv-loop μ-loop
 returns-2 c =

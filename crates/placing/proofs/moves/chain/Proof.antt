@@ -2,15 +2,10 @@
 use Prim.Native.Nat.{_<_}
 use mathlib.Core.Path.{refl, ap}
 use lib.Bits.{bitXor}
-use denote.Ref.{now}
 use Rattle.assignment.proofs.Counts.{differ}
-use Rattle.placing.proofs.Moving.{Asked, once-small, once-shifted, searched-meeting, searched-small, shifted-by, chained-yes}
+use Rattle.placing.proofs.Moving.{once-small, once-shifted, searched-meeting, searched-small, shifted-by, chained-yes}
 use Rattle.placing.proofs.moves.chain.Statement.{statement}
 use Rattle.placing.proofs.moves.chain.Tie as tie
-
-module _ (c : tie.Start) where
-  asked : Asked (now (c .args .sets)) (now (c .args .taken)) (now (c .args .holders)) (now (c .args .reach)) (c .args .free) (c .args .start) (c .args .before) (c .args .root)
-  asked = record { linked = c .pre .0 .0; node = c .pre .0 .1; unplaced = c .pre .0 .2; labels = c .pre .1 }
 
 -- a label of `start` is free
 module _ (c : tie.After-lowest) where
@@ -18,35 +13,35 @@ module _ (c : tie.After-lowest) where
   began = c .before .before
 
   small : c .lowest .result < 64
-  small = once-small (asked began) (began .fits .start .fits) (c .before .if1 .taken) (c .lowest .ensures)
+  small = once-small (began .pre) (began .fits .start .fits) (c .before .if1 .taken) (c .lowest .ensures)
 
 returns : tie.Need-returns
 returns c =
     let t = c .before .before .before .before .before in
     let q = t .before .before in
-    chained-yes (shifted-by (c .before .give .ensures) (once-shifted (asked q) (q .fits .start .fits) (t .before .if1 .taken) (t .lowest .ensures))) (ap (bitXor (q .args .free)) (c .bit-of .ensures))
+    chained-yes (shifted-by (c .before .give .ensures) (once-shifted (q .pre) (q .fits .start .fits) (t .before .if1 .taken) (t .lowest .ensures))) (ap (bitXor (q .args .free)) (c .bit-of .ensures))
 
 search-requires : tie.Need-search-requires
 search-requires c κs =
     let q = c .before .before .before .before in
-    (q .pre .0 .0 .fit-reach, refl, refl, c .before .before .before .if1 .left, λ l e. q .pre .1 l e .1)
+    (q .pre .linked .fit-reach, refl, refl, c .before .before .before .if1 .left, λ l e. q .pre .labels l e .1)
 
 shift-requires : tie.Need-shift-requires
 shift-requires c κs =
     let t = c .before .before .before .before .before in
     let q = t .before .before .before .before .before .before in
-    (q .args .free, q .args .start, q .args .before, searched-meeting (asked q) (t .before .search .ensures) (t .if2 .taken))
+    (q .args .free, q .args .start, q .args .before, searched-meeting (q .pre) (t .before .search .ensures) (t .if2 .taken))
 
 bit-of-requires-2 : tie.Need-bit-of-requires-2
 bit-of-requires-2 c κs =
     let t = c .before .before .before .before .before .before in
-    searched-small (asked (t .before .before .before .before .before .before)) (t .before .search .ensures) (t .if2 .taken)
+    searched-small (t .before .before .before .before .before .before .pre) (t .before .search .ensures) (t .if2 .taken)
 
 returns-2 : tie.Need-returns-2
 returns-2 c =
     let t = c .before .before .before .before .before .before .before in
     let q = t .before .before .before .before .before .before in
-    chained-yes (c .before .shift .ensures (q .args .free) (q .args .start) (q .args .before) (searched-meeting (asked q) (t .before .search .ensures) (t .if2 .taken))) (ap (bitXor (q .args .free)) (c .bit-of2 .ensures))
+    chained-yes (c .before .shift .ensures (q .args .free) (q .args .start) (q .args .before) (searched-meeting (q .pre) (t .before .search .ensures) (t .if2 .taken))) (ap (bitXor (q .args .free)) (c .bit-of2 .ensures))
 
 returns-3 : tie.Need-returns-3
 returns-3 c = let s = c .before .search .ensures in record {
@@ -59,7 +54,7 @@ chain-spec =
     tie.close
     (tie.spec
     (λ c κs. c .if1 .taken)
-    (λ c κs. (began (c .before .before .before) .pre .0 .1, small (c .before .before .before)))
+    (λ c κs. (began (c .before .before .before) .pre .node, small (c .before .before .before)))
     (λ c κs. small (c .before .before .before .before))
     returns
     search-requires

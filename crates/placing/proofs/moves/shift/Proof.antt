@@ -32,7 +32,7 @@ module _ (t : tie.At-loop Inv-loop μ-loop) where
   few = let (free, start, before, m) = t .before .pre in let v = t .loop .inv free start before m in omega (arith, v .within, m .trail .few)
 
   root : t .before .args .root < 64
-  root = t .before .pre .3 .node
+  root = t .before .pre .3 .asked .node
 
 -- the label was found in this step: by way of which, and who holds that
 module _ (t : tie.Then1 Inv-loop μ-loop) where
