@@ -1,5 +1,4 @@
 -- What holds of placings, for any crate.
 pub mod Counts
-pub mod Halls
 pub mod Shifts
 pub mod Firsts

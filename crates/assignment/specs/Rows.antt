@@ -42,9 +42,6 @@ module _ (I : Rows) where
   abbrev pub Node : ℕ → Type 0
   Node u = u < I .nodes
 
-  pub record Proper : Type 0 where
-    pub inside : (u k : ℕ) → Node u → I .may u k → I .slot u k < I .slots
-
   -- p has a position for each node of D, and no two of them the same slot
   pub record Placed (D : ℕ → Type 0) (p : ℕ → ℕ) : Type 0 where
     pub allowed : (u : ℕ) → D u → I .may u (p u)

@@ -13,8 +13,7 @@ use Rattle.integers.proofs.Words.{bit-zero}
 use Rattle.integers.proofs.Places.{and-true, and-both, or-split, left-true, right-true}
 use Rattle.assignment.specs.Rows.{In, But, but, count, put, Node, Placed}
 use Rattle.assignment.proofs.Counts.{differ, but-true, count-but, pigeonhole, put-other}
-use Rattle.assignment.proofs.Halls.{placed-part}
-use Rattle.assignment.proofs.Shifts.{placed-put}
+use Rattle.assignment.proofs.Shifts.{placed-part, placed-put}
 use Rattle.placing.specs.Words.{entry, flag, opens, slotOf, rowsOf, seenBy, Trail, Exhausted, Blocked, caught}
 use Rattle.placing.proofs.Searching.{fails, or-fails, seen-later, seen-begin}
 use Rattle.placing.proofs.Slots.{opens-bit, opens-solid, slot-label}

@@ -14,6 +14,7 @@ use lib.Count.{ones}
 use lib.Dec.{eqb, ltb}
 use lib.ListN.{length, set, length-set}
 use lib.Seq.{getD-set-same, getD-set-other}
+use mir.Val.{boolByte}
 use Rattle.integers.specs.Words.{bit, wordOf, Words}
 use Rattle.integers.specs.Rows.{part}
 use Rattle.integers.proofs.Rows.{length-part, getD-part}
@@ -26,6 +27,11 @@ use Rattle.instance.proofs.LaidOut.{row-inside}
 use Rattle.assignment.proofs.Counts.{by-same}
 use Rattle.placing.specs.Words.{entry, flag, opens, below, rank, Laid}
 use Rattle.placing.specs.Labels.{Labels, Worded}
+
+-- a flag as a number
+pub byte-is : (b : Bool) → boolByte b ≡ cond b 1 0
+byte-is true = refl
+byte-is false = refl
 
 -- one label more in a word
 pub word-more : (f : ℕ → ℕ) (i : ℕ) → wordOf f (i + 1) ≡ bitOr (wordOf f i) (2 ^ f i)

@@ -13,16 +13,12 @@ use denote.Ref.{now}
 use Rattle.integers.specs.Words.{bit}
 use Rattle.integers.proofs.Filling.{Filling, fill-none, fill-more, fill-all}
 use Rattle.placing.specs.Words.{entry, caught}
+use Rattle.placing.proofs.Laying.{byte-is}
 use Rattle.placing.proofs.answer.write_members.Statement.{statement}
 use Rattle.placing.proofs.answer.write_members.Tie as tie
 
 abbrev members : ℕ → ℕ → List ℕ → ℕ → ℕ
 members root seen taken u = cond (caught root seen taken u) 1 0
-
--- a test as a byte
-byte-is : (b : Bool) → boolByte b ≡ cond b 1 0
-byte-is true = refl
-byte-is false = refl
 
 member-is : (root seen : ℕ) (taken : List ℕ) (u : ℕ) {r : Bool} → r ≡ bit seen (entry taken u) → boolByte (eqb u root || (ltb u root && r)) ≡ members root seen taken u
 unfolding caught

@@ -6,20 +6,14 @@ use mathlib.Core.Bool.{Bool, true, false, cond}
 use mathlib.Core.List.{List}
 use native.Mathlib.Omega.{arith}
 use borrow.Author.Needs.{needs}
-use mir.Val.{boolByte}
 use denote.Ref.{now}
 use lib.Dec.{eqb}
 use lib.ListN.{length}
 use Rattle.integers.specs.Words.{wordOf}
 use Rattle.placing.specs.Words.{entry}
-use Rattle.placing.proofs.Laying.{small}
+use Rattle.placing.proofs.Laying.{byte-is, small}
 use Rattle.placing.proofs.tables.row_of.Statement.{statement}
 use Rattle.placing.proofs.tables.row_of.Tie as tie
-
--- a flag as a number
-byte-is : (b : Bool) → boolByte b ≡ cond b 1 0
-byte-is true = refl
-byte-is false = refl
 
 byte-few : (b : Bool) → boolByte b ≤ 1
 byte-few true = omega arith
