@@ -11,6 +11,7 @@ use lib.Dec.{eqb}
 use lib.ListN.{length}
 use Rattle.integers.specs.Words.{wordOf}
 use Rattle.placing.specs.Words.{entry}
+use mir.Val.{boolByte}
 use Rattle.placing.proofs.Laying.{byte-is, small}
 use Rattle.placing.proofs.tables.row_of.Statement.{statement}
 use Rattle.placing.proofs.tables.row_of.Tie as tie
