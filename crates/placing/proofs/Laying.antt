@@ -25,7 +25,7 @@ use Rattle.instance.specs.Sheet.{instanceOf}
 use Rattle.instance.specs.Readable.{Readable}
 use Rattle.instance.proofs.LaidOut.{row-inside}
 use Rattle.assignment.proofs.Counts.{by-same}
-use Rattle.placing.specs.Words.{entry, flag, opens, below, rank, Laid}
+use Rattle.placing.specs.Words.{entry, opens, below, rank, Laid}
 use Rattle.placing.specs.Labels.{Labels, Worded}
 
 -- a flag as a number

@@ -4,16 +4,15 @@ use mathlib.Core.Path.{_≡_, refl, sym, ap, _∙_, subst, transport}
 use mathlib.Core.Bool.{Bool, true, false, _||_, or-false}
 use mathlib.Core.List.{List}
 use mathlib.Core.Logic.{_⊎_, inl, inr, ⊎-elim}
-use Prim.Native.Nat.{ℕ, zero, suc, _+_, _-_, _^_, _≤_, _<_}
+use Prim.Native.Nat.{ℕ, zero, suc, _-_, _^_, _≤_, _<_}
 use native.Mathlib.Omega.{arith}
 use borrow.Author.Tests.{ne-eqb}
 use lib.Bits.{bitAnd, bitOr, bitXor, or-lt, xor-lt}
 use lib.Count.{trailingZeros}
-use lib.Dec.{eqb}
-use lib.ListN.{length, set, replicate, length-replicate}
+use lib.ListN.{set, replicate, length-replicate}
 use lib.Seq.{getD-set-same, getD-set-other}
 use Rattle.integers.specs.Words.{bit}
-use Rattle.integers.proofs.Places.{by-test, or-split, right-true}
+use Rattle.integers.proofs.Places.{or-split, right-true}
 use Rattle.integers.proofs.Words.{bit-or, bit-own, bit-other, bit-power, bit-dropped, bit-kept, power-fits}
 use Rattle.assignment.proofs.Counts.{differ, by-same}
 use Rattle.placing.specs.Words.{entry, seenBy, Trail, Linked, Stays, Asked, Meeting, Shifted, Searched, Chained}

@@ -1,18 +1,16 @@
 -- Nodes that are seated, as a placing.
 -- Assumes nothing.
-use mathlib.Core.Path.{_≡_, refl, sym, ap, _∙_, subst}
-use mathlib.Core.Bool.{Bool, true, false, cond, _&&_}
+use mathlib.Core.Path.{_≡_, sym, ap, _∙_, subst}
+use mathlib.Core.Bool.{Bool, true, false}
 use mathlib.Core.List.{List}
 use mathlib.Core.Logic.{⊎-elim}
-use Prim.Native.Nat.{ℕ, _+_, _^_, _≤_, _<_}
+use Prim.Native.Nat.{ℕ, _+_, _≤_, _<_}
 use native.Mathlib.Omega.{arith}
 use borrow.Author.Tests.{ltb-true, ltb-false}
-use lib.Dec.{eqb, ltb}
-use lib.ListN.{length}
+use lib.Dec.{ltb}
 use Rattle.integers.specs.Words.{bit}
 use Rattle.integers.proofs.Places.{by-test}
-use Rattle.integers.proofs.Words.{bit-small, bit-zero}
-use Rattle.assignment.specs.Rows.{But, Node, Placed}
+use Rattle.integers.proofs.Words.{bit-small}
 use Rattle.assignment.proofs.Counts.{differ, by-same}
 use Rattle.placing.specs.Words.{entry, flag, rowsOf, Linked, Seated, Stays, Ended, Blocked, caught}
 use Rattle.placing.proofs.Holding.{Held, linked-held}

@@ -1,24 +1,24 @@
 -- One node takes its lowest label with which all can be placed, and then the next.
 -- Assumes nothing.
-use mathlib.Core.Path.{_≡_, refl, sym, ap, _∙_, subst}
+use mathlib.Core.Path.{_≡_, refl, sym, ap, _∙_}
 use mathlib.Core.Bool.{Bool, true, false, not, _&&_, _||_, and-false, and-true as and-alone}
 use mathlib.Core.List.{List}
-use mathlib.Core.Logic.{_⊎_, inl, inr, ⊎-elim}
+use mathlib.Core.Logic.{_⊎_, ⊎-elim}
 use Prim.Native.Nat.{ℕ, _+_, _^_, _≤_, _<_}
 use native.Mathlib.Omega.{arith}
 use borrow.Author.Tests.{eq-eqb, eqb-true, ltb-true, ltb-false}
 use lib.Bits.{bitOr, bitXor}
 use lib.Count.{trailingZeros, trailing-of-zero}
 use lib.Dec.{eqb, ltb, lit<}
-use lib.ListN.{length, set}
+use lib.ListN.{set}
 use lib.Seq.{getD-set-same, getD-set-other}
 use Rattle.integers.specs.Words.{bit}
 use Rattle.integers.proofs.Places.{by-test, or-split, and-true, and-both, left-true, right-true}
 use Rattle.integers.proofs.Words.{bit-small, bit-zero, bit-own, bit-without, lowest, without-fits}
-use Rattle.assignment.specs.First.{First, Agree, None, Settled}
+use Rattle.assignment.specs.First.{First, None}
 use Rattle.assignment.proofs.Counts.{differ, by-same}
 use Rattle.assignment.proofs.Firsts.{settled-none, settled-more, settled-first}
-use Rattle.placing.specs.Words.{entry, flag, opens, All, Linked, Seated, seenBy, Stays, Ended, Lowered, Lowest}
+use Rattle.placing.specs.Words.{entry, All, Linked, Seated, seenBy, Stays, Ended, Lowered, Lowest}
 use Rattle.placing.proofs.Searching.{fails, seen-later, seen-begin}
 use Rattle.placing.proofs.Slots.{opens-kinds, opens-bit}
 use Rattle.placing.proofs.Linking.{linked-leave}

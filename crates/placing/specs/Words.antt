@@ -11,7 +11,7 @@ use lib.ListN.{length, getD}
 use Rattle.integers.specs.Words.{bit, Words}
 use Rattle.instance.specs.Instance.{Instance, first}
 use Rattle.assignment.specs.Rows.{Rows, In, But, count, Node, Placed}
-use Rattle.assignment.specs.First.{First, Settled, Agree}
+use Rattle.assignment.specs.First.{First, Settled}
 
 -- a table of numbers, and one of flags, as a function of the place
 abbrev pub entry : List ℕ → ℕ → ℕ

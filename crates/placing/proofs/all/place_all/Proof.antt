@@ -1,7 +1,6 @@
 -- `place_all` meets its contract: the nodes below u are seated.
 use Prim.Native.Nat.{_-_, _<_}
-use mathlib.Core.Path.{_≡_, refl}
-use mathlib.Core.Bool.{false}
+use mathlib.Core.Path.{refl}
 use native.Mathlib.Omega.{arith}
 use Rattle.integers.proofs.Words.{bit-zero}
 use Rattle.assignment.proofs.Counts.{differ}

@@ -1,7 +1,7 @@
 -- `labels_below` meets its contract: 1 shifted by less than 64 does not wrap.
 -- Assumes nothing.
 use Prim.Native.Nat.{ℕ, _-_, _^_, _≤_}
-use mathlib.Core.Path.{_≡_, sym, ap, _∙_, subst}
+use mathlib.Core.Path.{sym, ap, _∙_, subst}
 use borrow.Author.Needs.{needs}
 use borrow.Author.Tests.{lt-ltb, le-ltb}
 use lib.Pow.{pow-pos}

@@ -2,12 +2,11 @@
 use mathlib.Core.Path.{_≡_, refl, sym, ap, _∙_, subst}
 use mathlib.Core.Bool.{Bool, cond}
 use mathlib.Core.List.{List}
-use Prim.Native.Nat.{ℕ, zero, suc, _≤_, _<_}
+use Prim.Native.Nat.{ℕ, _≤_, _<_}
 use native.Mathlib.Omega.{arith}
 use borrow.Author.Needs.{needs}
 use denote.Ref.{now}
-use lib.Dec.{lit<}
-use lib.ListN.{length, replicate}
+use lib.ListN.{length}
 use Rattle.integers.specs.Places.{tabulate}
 use Rattle.integers.specs.Words.{Words}
 use Rattle.instance.specs.Instance.{Instance}

@@ -6,7 +6,7 @@ use native.Mathlib.Omega.{arith}
 use borrow.Author.Needs.{needs}
 use lib.Bits.{bitAnd}
 use lib.Count.{ones}
-use Rattle.placing.specs.Words.{below, rank}
+use Rattle.placing.specs.Words.{rank}
 use Rattle.placing.proofs.answer.rank_of.Statement.{statement}
 use Rattle.placing.proofs.answer.rank_of.Tie as tie
 

@@ -1,11 +1,9 @@
 -- `lower_all` meets its contract: the nodes below u are where they are to be.
-use Prim.Native.Nat.{ℕ, _-_, _<_}
-use mathlib.Core.Path.{_≡_}
+use Prim.Native.Nat.{_-_, _<_}
 use mathlib.Core.Bool.{Bool}
 use mathlib.Core.List.{List}
 use native.Mathlib.Omega.{arith}
 use borrow.Author.Needs.{needs}
-use denote.Ref.{now}
 use Rattle.placing.specs.Words.{Linked, Seated, Lowered}
 use Rattle.placing.proofs.Settling.{lowered-none, lowered-more, lowered-done}
 use Rattle.placing.proofs.lowering.lower_all.Statement.{statement}

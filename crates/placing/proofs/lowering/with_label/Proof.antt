@@ -1,6 +1,6 @@
 -- `with_label` meets its contract: 255 is no bit of a word.
 use Prim.Native.Nat.{ℕ, _^_}
-use mathlib.Core.Path.{_≡_, sym, ap, _∙_}
+use mathlib.Core.Path.{sym, ap, _∙_}
 use mathlib.Core.Bool.{_||_, or-false}
 use native.Mathlib.Omega.{arith}
 use borrow.Author.Tests.{ne-eqb}

@@ -1,7 +1,6 @@
 -- `give` meets its contract.
 use mathlib.Core.Path.{refl}
 use native.Mathlib.Omega.{arith}
-use borrow.Author.Needs.{needs}
 use Rattle.placing.proofs.moves.give.Statement.{statement}
 use Rattle.placing.proofs.moves.give.Tie as tie
 

@@ -1,5 +1,4 @@
 -- `bit_of` meets its contract: 1 shifted by less than 64 does not wrap.
-use native.Mathlib.Omega.{arith}
 use Rattle.integers.proofs.Words.{one-shifted}
 use Rattle.placing.proofs.words.bit_of.Statement.{statement}
 use Rattle.placing.proofs.words.bit_of.Tie as tie
