@@ -1,4 +1,6 @@
 // Reads `sheet.msh` and a list of records on standard input, and prints the counts, the bound, the kept cost and the gap.
+#![tactic(auto)]
+
 use libc::STDIN_FILENO;
 
 fn main() {

@@ -1,4 +1,6 @@
 // Whole runs of the program, each under a heading. The files with a number are runs of an independent implementation.
+#![tactic(auto)]
+
 use libc::STDOUT_FILENO;
 use messages::{Answer, Report};
 

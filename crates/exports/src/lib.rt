@@ -2,6 +2,8 @@
 //
 // None has a `requires`, and the one `ensures` of each fixes its answer and every lent buffer. One choice is left open: which
 // set of nodes placing names where no matching exists. What holds of the set is said.
+#![tactic(auto)]
+
 mod matching;
 mod moving;
 mod reading;

@@ -1,7 +1,7 @@
 -- The labels that may be taken after the first nodes, as a test and as a table of 256 places: 255, and those that none of them takes.
 -- Assumes nothing.
 use Rattle.std.proofs.Common.{◌≡◌, ℕ, zero, suc, ◌+◌, ◌<◌, Bool, true, false, not, ◌&&◌, ◌||◌, eqb, List, [], ◌∷◌, ◌++◌, get_or, set, replicate, sym, refl, ap, ◌∙◌, add-one, arith, length-set, get_or-set_other, get_or-set_same, ext_get_or, eq-eqb, ne_eqb, eqb-true}
-use mathlib.Core.Bool.{and_true, and-false, and_assoc, or-true, or-false}
+use mathlib.Core.Bool.{and-true, and-false, and_assoc, or-true, or-false}
 use borrow.Author.Tests.{eqb-false}
 use lib.ListN.{length-replicate, get_or-replicate}
 use Rattle.integers.specs.Places.{range, every, tabulate}
@@ -17,7 +17,7 @@ use Rattle.rules.specs.Rounding.{free}
 
 every_last : (t : ℕ → Bool) (l : List ℕ) (k : ℕ) → every t (l ++ k ∷ []) ≡ (every t l && t k)
 unfolding every
-every_last t [] k = and_true (t k)
+every_last t [] k = and-true (t k)
 every_last t (i ∷ l) k = ap (λ (b : Bool). t i && b) (every_last t l k) ∙ sym (and_assoc (t i) (every t l) (t k))
 
 every_first : (t : ℕ → Bool) (n : ℕ) → every t (range 0 n) ≡ below n t
@@ -58,7 +58,7 @@ module _ (I : Instance) where
   unused_kept : (x : List ℕ) (u l : ℕ) → (I.label (chosen I x u) ≡ l → ⊥) → unused x (u + 1) l ≡ unused x u l
   unfolding below
   unused_kept x u l d =
-      ap (λ (b : Bool). not (exclusive l) || b) (rw (add-one u, ne_eqb (I.label (chosen I x u)) l d) (and_true (below u (λ w. not (eqb (I.label (chosen I x w)) l)))))
+      ap (λ (b : Bool). not (exclusive l) || b) (rw (add-one u, ne_eqb (I.label (chosen I x u)) l d) (and-true (below u (λ w. not (eqb (I.label (chosen I x w)) l)))))
 
   -- ---- as a table
 

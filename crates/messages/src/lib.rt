@@ -1,4 +1,6 @@
 // Moving costs: opening, running a list of records, reporting. Document 01, "The costs that move", "Records", "Reporting".
+#![tactic(auto)]
+
 pub mod answers;
 mod bound;
 mod clash;

@@ -1,4 +1,6 @@
 // Placing all nodes, or naming nodes that cannot all be placed. Document 02, wish 4.
+#![tactic(auto)]
+
 mod all;
 mod answer;
 mod greedy;

@@ -1,5 +1,7 @@
 // Writes the forward (0) or the backward (1) sweep of `sheet.msh` to standard output, as a list of records for
 // `cirbaldu`. The direction is the one argument. When refused it writes nothing there, and `refused R` to standard error.
+#![tactic(auto)]
+
 ghost use Rattle.io.specs.Counts.{IsPrefixLen};
 
 use instance::refusal::NONE;

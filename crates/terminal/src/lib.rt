@@ -1,5 +1,7 @@
 // Files, standard input and output for the programs. What they read and write is composed by proved functions on slices:
 // no contract can say what a file holds.
+#![tactic(auto)]
+
 ghost use Rattle.io.specs.Counts.{IsPrefixLen};
 
 use libc::STDOUT_FILENO;
