@@ -73,6 +73,7 @@ class Function:
             self.step[norm(p[0])] = p[2]
             self.new[norm(p[0])] = n
             self.callee[norm(p[0])] = p[3]
+        self.index = {norm(p[0]): i for i, p in enumerate(places)}
         self.places_used = set()
         mod = os.path.basename(os.path.dirname(folder))
         self.own = contracts.get((crate, mod, self.name)) or contracts.get(("", "", self.name)) or ([], [])
@@ -100,6 +101,13 @@ class Function:
         if q is None:
             self.said.append(f"no step {comps[0]} at {place}")
             return list(comps)
+        if re.match(r"(shared-)?slice-known\d*$", old) and comps[1:2] == ["given"]:
+            typed = self.info["typed"][self.index[place]]
+            var = next((v for v, st in typed if norm(st) == norm(self.step[q][0])), None)
+            var = var or next((v for pl in range(len(self.info["typed"])) for v, st in self.info["typed"][pl] if norm(st) == norm(self.step[q][0])), None)
+            if var:
+                return ["type_inv", var] + list(comps[2:])
+            self.said.append(f"no variable of {comps[0]}")
         new = self.step[q][1]
         rest = ["type_inv" if x == "type-inv" else x for x in comps[1:]]
         if rest[:1] == ["inv"]:
@@ -191,7 +199,9 @@ class Function:
         env = dict(env)
         while True:
             m = None
-            for m in re.finditer(rf"\blet ({ID}) = ({ID})((?:\.before)*) in[ \n]*", text):
+            for m in re.finditer(rf"\blet ({ID}) = ({ID})((?:\.before)*)((?:\.(?:requires|pre))?) in[ \n]*", text):
+                if m.group(4) and (len(self.own[0]) < 2 or m.group(2) not in env):
+                    continue
                 if m.group(2) in env and m.group(1) not in env:
                     break
                 if m.group(2) in env and m.group(1) in env:
@@ -204,6 +214,14 @@ class Function:
             q = place
             for _ in range(m.group(3).count(".before")):
                 q = self.parent.get(q)
+            if m.group(4):
+                # the clauses have names: each path is written out
+                v = m.group(1)
+                body = text[m.end():]
+                body = re.sub(rf"(?<![^\s(){{}},]){re.escape(v)}((?:\.{ID})+)", lambda x: m.group(2) + m.group(3) + ".requires" + x.group(1), body)
+                text = text[: m.start()] + body
+                env.pop(m.group(1), None)
+                continue
             # a name for the place, as walked from the same root
             env[m.group(1)] = ("@" + m.group(1), q, None)
             self.alias[m.group(1)] = (root, place, kind, q)
@@ -223,6 +241,8 @@ class Function:
         return root, place, kind, q
 
     def body(self, text, env):
+        # an answer that another cites has its goal's name
+        text = re.sub(rf"(?<![^\s(){{}},]){ID}(?![^\s(){{}},])", lambda m: self.renamed.get(m.group(0), m.group(0)), text)
         self.alias, self.kept = {}, {}
         text, env = self.lets(text, env)
         final = {}
@@ -330,6 +350,7 @@ class Function:
                     by_name.setdefault(a, []).append(i)
                 else:
                     inline.append((i, a))
+        self.renamed = {old: needs[idx[0]][1] for old, idx in by_name.items() if old != needs[idx[0]][1]}
         self.helpers = {}
         # helpers that give a place
         for b in blocks:
@@ -591,6 +612,7 @@ class Function:
             cur.append(l)
         if cur:
             chunks.append("\n".join(cur))
+        chunks = [re.sub(rf"tie\.({ID})(?: invariant-loop decreases-loop)?", typed, ch) for ch in chunks]
         for ch in chunks:
             m = re.match(rf"\s*({ID})((?: {ARG})*) =(\s)", ch)
             local = dict(env)
@@ -601,9 +623,8 @@ class Function:
                 i = m.end(2) + 2
                 out.append(ch[:i] + self.body(ch[i:], local))
             else:
-                sub = re.sub(rf"tie\.({ID})(?: invariant-loop decreases-loop)?", typed, ch)
                 # statements over a section's place
-                out.append(self.body(sub, local) if env else sub)
+                out.append(self.body(ch, local) if env else ch)
         return "\n".join(out)
 
 

@@ -1,5 +1,5 @@
 // What a report answers.
-#[derive(Drop)]
+#[derive(Clone, Copy)]
 pub enum Report {
     Refused(u8),
     // the bound, with none kept
@@ -9,7 +9,7 @@ pub enum Report {
 }
 
 // What a run answers: how many records it finished, how many roundings were stuck, and the refusal that stopped it.
-#[derive(Drop)]
+#[derive(Clone, Copy)]
 pub struct Answer {
     pub done: usize,
     pub stuck: usize,

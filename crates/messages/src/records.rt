@@ -16,7 +16,7 @@ use instance::exclusive;
 use instance::refusal::NO_SUCH_RECORD;
 
 // A record of a list: what it does by its kind, and what it names.
-#[derive(Drop)]
+#[derive(Clone, Copy)]
 pub(crate) struct Record {
     pub kind: u8,
     pub node: usize,

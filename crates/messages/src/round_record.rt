@@ -12,7 +12,7 @@ use crate::view::View;
 use instance::refusal::{NO_SUCH_RECORD, NONE};
 
 // How many roundings were stuck, 0 or 1, and the refusal.
-#[derive(Drop)]
+#[derive(Clone, Copy)]
 pub(crate) struct Taken {
     pub stuck: usize,
     pub refusal: u8,

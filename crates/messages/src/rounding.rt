@@ -15,7 +15,7 @@ use index::{number, wide};
 use instance::exclusive;
 
 // What rounding answers: a position for each node, or that no label was left for one.
-#[derive(Drop)]
+#[derive(Clone, Copy)]
 pub(crate) struct Rounding {
     pub stuck: bool,
     pub positions: [u8; 64],

@@ -12,7 +12,7 @@ use instance::{Layout, price_of};
 pub(crate) const COST_LIMIT: u64 = 0x100_0000_0000;
 
 // The numbers of nodes, labels and edges, where node prices, ends and edge prices stand, and the limit of the call.
-#[derive(Drop)]
+#[derive(Clone, Copy)]
 pub(crate) struct View {
     pub nodes: usize,
     pub labels: usize,

@@ -5,7 +5,7 @@ ghost use Rattle.placing.specs.Words.{entry, Linked, Stopped};
 use crate::moves::chain;
 
 // Whether all nodes were placed, and then which labels are free; else the node for which there is no label, and the labels seen.
-#[derive(Drop)]
+#[derive(Clone, Copy)]
 pub(crate) struct Stop {
     pub placed: bool,
     pub root: usize,

@@ -52,7 +52,7 @@ fn shift(
 }
 
 // Whether the root was placed, and then which labels are free; else the labels seen.
-#[derive(Drop)]
+#[derive(Clone, Copy)]
 pub(crate) struct Link {
     pub found: bool,
     pub free: u64,

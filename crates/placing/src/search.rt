@@ -8,7 +8,7 @@ ghost use Rattle.placing.specs.Words.{Searched};
 use crate::words::lowest;
 
 // A search among labels: where it ended, and after how many steps.
-#[derive(Drop)]
+#[derive(Clone, Copy)]
 pub(crate) struct Sight {
     pub found: bool,
     pub label: usize,

@@ -8,7 +8,7 @@ use crate::greedy::take_first;
 use crate::lowering::lower_all;
 
 // A label for each node, or the root of a search that failed and the labels that it saw.
-#[derive(Drop)]
+#[derive(Clone, Copy)]
 pub(crate) struct Found {
     pub placed: bool,
     pub taken: [u8; 64],

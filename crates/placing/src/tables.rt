@@ -10,7 +10,7 @@ use crate::words::bit_of;
 use index::wide;
 
 // The labels of a node below 64 as a word, and whether it has 255.
-#[derive(Drop)]
+#[derive(Clone, Copy)]
 struct Row {
     word: u64,
     own: bool,

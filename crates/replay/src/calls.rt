@@ -9,13 +9,13 @@ use crate::tally::{Verdict, judged};
 use messages::{Answer, Report};
 
 // What a call left, and how it compares.
-#[derive(Drop)]
+#[derive(Clone, Copy)]
 pub struct Outcome {
     pub state: State,
     pub verdict: Verdict,
 }
 
-#[derive(Drop)]
+#[derive(Clone, Copy)]
 struct Ran {
     state: State,
     answer: Answer,

@@ -5,14 +5,14 @@ use crate::tally::Tally;
 use crate::{ops, state, tally};
 
 // What a call left behind.
-#[derive(Drop)]
+#[derive(Clone, Copy)]
 struct Step {
     state: State,
     tally: Tally,
 }
 
 // How far the replay is: the place of the next case, and what was counted so far.
-#[derive(Drop)]
+#[derive(Clone, Copy)]
 struct Progress {
     at: usize,
     tally: Tally,

@@ -15,7 +15,7 @@ const LABELS: u8 = 1;
 
 const EDGES: u8 = 2;
 
-#[derive(Drop)]
+#[derive(Clone, Copy)]
 pub struct State {
     pub nodes: [i64; 192],
     pub labels: [i64; 192],

@@ -1,6 +1,6 @@
 // Counting the calls, for each op by its number.
 
-#[derive(Drop)]
+#[derive(Clone, Copy)]
 pub enum Verdict {
     Agreed,
     Differed,
@@ -15,7 +15,7 @@ pub fn judged(agreed: bool) -> Verdict {
     }
 }
 
-#[derive(Drop)]
+#[derive(Clone, Copy)]
 pub struct Tally {
     pub compared: [u64; 8],
     pub differed: [u64; 8],
@@ -31,7 +31,7 @@ pub struct Tally {
 }
 
 // What is counted for one op.
-#[derive(Drop)]
+#[derive(Clone, Copy)]
 pub struct Counts {
     pub compared: u64,
     pub differed: u64,

@@ -15,7 +15,7 @@ use messages::refusal::{BUFFER_LENGTH, NO_SUCH_RECORD, NONE};
 use messages::{Layout, read};
 
 // n, L, E and N of a sheet.
-#[derive(Drop)]
+#[derive(Clone, Copy)]
 struct Counts {
     nodes: usize,
     labels: usize,

@@ -24,7 +24,7 @@ pub(crate) fn direction_of(text: &[u8]) -> u8
 }
 
 // The refusal, and how many bytes were written: none when refused.
-#[derive(Drop)]
+#[derive(Clone, Copy)]
 pub(crate) struct Swept {
     pub refusal: u8,
     pub count: usize,

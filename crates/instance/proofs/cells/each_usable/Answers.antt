@@ -1,0 +1,20 @@
+-- `each_usable` meets its contract: each edge is tested, and whether all passed is kept.
+use Rattle.std.proofs.Common.{ℕ, ◌-◌, not, ap, ◌∙◌, arith, rules}
+use Rattle.integers.specs.Checks.{below}
+use Rattle.integers.proofs.Checks.{Folded, folded_none, folded_more, folded_all}
+use Rattle.instance.specs.Sheet.{none_usable, usable_ok}
+use Rattle.instance.proofs.cells.each_usable.Goals as goal
+
+pub edge_usable-ok-requires : goal.edge_usable-ok-requires
+edge_usable-ok-requires c = (c.requires.0, omega (arith, c.loop-e-test.true, c.requires.1))
+
+pub loop-e-preserved : goal.loop-e-preserved
+loop-e-preserved c = folded_more c.loop-e.invariant c.loop-e-test.true c.edge_usable-ok.ensures
+
+pub returns : goal.returns
+unfolding usable_ok
+returns c =
+    folded_all c.loop-e.invariant c.loop-e-test.false ∙ ap (λ (n : ℕ). below n (λ e. not (none_usable c.args.sheet.now e))) c.requires.1
+
+pub loop-e-init : goal.loop-e-init
+loop-e-init c = folded_none _ _

@@ -1,0 +1,11 @@
+-- `all_prices_ok` meets its contract: the node prices, and then the edge prices.
+use Rattle.std.proofs.Common.{sym, ◌∙◌, rules}
+use Rattle.instance.proofs.Stages.{prices_by}
+use Rattle.instance.proofs.reading.all_prices_ok.Goals as goal
+
+pub returns-then-prices_ok : goal.returns-then-prices_ok
+returns-then-prices_ok c =
+    c.prices_ok-then-prices_ok.ensures ∙ sym (prices_by _ c.requires.sizes ∙ rw (sym c.prices_ok.ensures ∙ c.if-prices_ok.true))
+
+pub returns-else-prices_ok : goal.returns-else-prices_ok
+returns-else-prices_ok c = sym (prices_by _ c.requires.sizes ∙ rw (sym c.prices_ok.ensures ∙ c.if-prices_ok.false))

@@ -1,0 +1,10 @@
+-- `read_degrees` meets its contract, by the laws of its turns.
+use Rattle.std.proofs.Common.{◌-◌, ◌∙◌, arith, rules}
+use Rattle.instance.proofs.Turns.{DegreesTurn, degrees_none, degrees_bad, degree_low, degree_high, degrees_more, degrees_done}
+use Rattle.instance.proofs.sections.read_degrees.Given as goal
+
+abbrev pub invariant-loop-u : goal.invariant-loop-u
+invariant-loop-u l = DegreesTurn l.sheet l.n l.starts l.total l.u
+
+abbrev pub decreases-loop-u : goal.decreases-loop-u
+decreases-loop-u l = l.n - l.u
