@@ -80,6 +80,15 @@ class Function:
 
     # ---- paths
 
+    def plain(self, q):
+        """The nearest place that older kits had too."""
+        while q is not None and self.step.get(q) and re.match(r"way-told\d*$", norm(self.step[q][0])):
+            q = self.parent.get(q)
+        return q
+
+    def up(self, q):
+        return self.plain(self.parent.get(self.plain(q)))
+
     def field(self, place, comps):
         """The parts behind a place's step."""
         old = norm(comps[0])
@@ -141,16 +150,19 @@ class Function:
 
     def place_of(self, root, rootplace, kind, q):
         """The term for the record of place q, from a root that is a goal's argument or a place's record."""
-        if q == rootplace:
+        if q == rootplace or q == self.plain(rootplace) and False:
+            return root
+        if q is None:
+            self.said.append(f"a place before the start of {root}")
             return root
         self.places_used.add(q)
         return f"(goal.at.{kind} {root}).{self.new[q]}"
 
     def walk(self, root, place, kind, comps):
-        q = place
+        q = self.plain(place)
         i = 0
         while i < len(comps) and comps[i] == "before":
-            q = self.parent.get(q)
+            q = self.up(q)
             if q is None:
                 self.said.append(f"{root} goes before its start")
                 return root + "." + ".".join(comps)
@@ -212,8 +224,12 @@ class Function:
                 return text, env
             root, place, kind = env[m.group(2)]
             q = place
+            q = self.plain(q)
             for _ in range(m.group(3).count(".before")):
-                q = self.parent.get(q)
+                q = self.up(q)
+            if q is None:
+                self.said.append(f"{m.group(0).strip()} goes before its start")
+                return text, env
             if m.group(4):
                 # the clauses have names: each path is written out
                 v = m.group(1)
@@ -266,9 +282,12 @@ class Function:
             c = q
             i = 0
             while i < len(comps) and comps[i] == "before":
-                c = self.parent.get(c)
+                c = self.up(c)
                 i += 1
             rest = comps[i:]
+            if c is None:
+                self.said.append(f"{m.group(0)} goes before its start")
+                return m.group(0)
             if not rest:
                 return "\0" + (head if head in self.kept and c == q else self.place_of(r, p, k, c)) + "\0"
             return "\0" + r + "." + ".".join(self.field(c, rest)) + "\0"

@@ -121,14 +121,14 @@ module _ {I : Instance} {u : ℕ} {f : ℕ → ℕ} {d : ℕ} (p : Labels f d) (
   own' = set own u last
 
   word_here : entry sets' u ≡ word
-  word_here = get_or-set_same sets u word 0 (omega (arith, g.size-sets))
+  word_here = get_or-set_same sets u word 0 (omega (arith, g.size_sets))
 
   word_before : (v : ℕ) → v < u → entry sets' v ≡ entry sets v
   word_before v h = get_or-set_other sets u v word 0 (λ e. omega arith)
 
   opens_here : (l : ℕ) → opens sets' own' u l ≡ takes word last l
   unfolding opens
-  opens_here l = ap₂ (λ (x : ℕ) (b : Bool). takes x b l) word_here (get_or-set_same own u last false (omega (arith, g.size-own)))
+  opens_here l = ap₂ (λ (x : ℕ) (b : Bool). takes x b l) word_here (get_or-set_same own u last false (omega (arith, g.size_own)))
 
   opens_before : (v l : ℕ) → v < u → opens sets' own' v l ≡ opens sets own v l
   unfolding opens
@@ -192,6 +192,6 @@ module _ {s : List ℕ} (r : Readable s) {u : ℕ} (h : u < (instance_of s).node
       → {sets : List ℕ} {own : List Bool} → Laying I u sets own → Laying I (u + 1) (set sets u word) (set own u last)
   laid_more w g = record {
     laid = laid_node bytes_labels bytes_long bytes_at (omega (arith, r.proper.nodes_few)) w g;
-    size_sets = simp length-set g.size-sets;
-    size_own = simp length-set g.size-own;
+    size_sets = simp length-set g.size_sets;
+    size_own = simp length-set g.size_own;
   }

@@ -39,13 +39,13 @@ module _ {sets taken holders reach : List ℕ} {free : ℕ} (k : Linked sets tak
   module _ {u l left : ℕ} (h : u < 64) (s : l < 64) (vacant : bit free l ≡ true) (own : bit (entry sets u) l ≡ true) (fit : left < 2 ^ 64) (gone : bit left l ≡ false)
       (rest : (x : ℕ) → x < 64 → (x ≡ l → ⊥) → bit left x ≡ (bit free x || eqb x (entry taken u))) where
     room₁ : u < length taken
-    room₁ = omega (arith, k.size-taken)
+    room₁ = omega (arith, k.size_taken)
 
     room₂ : l < length holders
-    room₂ = omega (arith, k.size-holders)
+    room₂ = omega (arith, k.size_holders)
 
     room₃ : l < length reach
-    room₃ = omega (arith, k.size-reach)
+    room₃ = omega (arith, k.size_reach)
 
     at : entry (set taken u l) u ≡ l
     at = get_or-set_same taken u l 0 room₁
@@ -55,11 +55,11 @@ module _ {sets taken holders reach : List ℕ} {free : ℕ} (k : Linked sets tak
 
     pub linked_take : Linked sets (set taken u l) (set holders l u) (set reach l (entry sets u)) left
     linked_take = record {
-      size_taken = simp length-set k.size-taken;
-      size_holders = simp length-set k.size-holders;
-      size_reach = simp length-set k.size-reach;
-      fit_sets = k.fit-sets;
-      fit_reach = words_set reach l (entry sets u) k.fit-reach (k.fit-sets u);
+      size_taken = simp length-set k.size_taken;
+      size_holders = simp length-set k.size_holders;
+      size_reach = simp length-set k.size_reach;
+      fit_sets = k.fit_sets;
+      fit_reach = words_set reach l (entry sets u) k.fit_reach (k.fit_sets u);
       fit_free = fit;
       inside = λ w g b. by-same w u
           (λ e. subst (λ v. bit (entry sets v) (entry (set taken u l) v) ≡ true) (sym e) (rw at own))
@@ -90,18 +90,18 @@ module _ {sets taken holders reach : List ℕ} {free : ℕ} (k : Linked sets tak
   -- u leaves its label, if it takes one
   module _ {u left : ℕ} (h : u < 64) (fit : left < 2 ^ 64) (rest : (x : ℕ) → x < 64 → bit left x ≡ (bit free x || eqb x (entry taken u))) where
     away : entry (set taken u 255) u ≡ 255
-    away = get_or-set_same taken u 255 0 (omega (arith, k.size-taken))
+    away = get_or-set_same taken u 255 0 (omega (arith, k.size_taken))
 
     others : (w : ℕ) → (w ≡ u → ⊥) → entry (set taken u 255) w ≡ entry taken w
     others w d = get_or-set_other taken u w 255 0 d
 
     pub linked_leave : Linked sets (set taken u 255) holders reach left
     linked_leave = record {
-      size_taken = simp length-set k.size-taken;
-      size_holders = k.size-holders;
-      size_reach = k.size-reach;
-      fit_sets = k.fit-sets;
-      fit_reach = k.fit-reach;
+      size_taken = simp length-set k.size_taken;
+      size_holders = k.size_holders;
+      size_reach = k.size_reach;
+      fit_sets = k.fit_sets;
+      fit_reach = k.fit_reach;
       fit_free = fit;
       inside = λ w g b. rw (others w (not_away w b)) (k.inside w g (rw (others w (not_away w b)) at b));
       taker = λ w g b. rw (others w (not_away w b)) (still w g (not_away w b) (rw (others w (not_away w b)) at b));

@@ -51,14 +51,14 @@ module _ {sets taken holders reach : List ℕ} {free start before : ℕ} {by wor
   moving_none = record {
     within = omega arith;
     found = m.met;
-    apart = λ t h e. differ m.free-label (ap (bit free) (sym e) ∙ (m.trail.from t h).1);
+    apart = λ t h e. differ m.free_label (ap (bit free) (sym e) ∙ (m.trail.from t h).1);
     same = λ t h. refl;
     stays = λ w d. inl refl;
     unplaced = m.asked.unplaced;
     word = free;
     linked = m.asked.linked;
-    here = m.free-label;
-    gone = bit_dropped free label m.free-label;
+    here = m.free_label;
+    gone = bit_dropped free label m.free_label;
     rest = λ x h d. sym (bit_kept free label x d);
   }
 
@@ -104,7 +104,7 @@ module _ {sets taken holders reach : List ℕ} {free start before : ℕ} {by wor
 
       -- it is not free, and stays so
       left : bit (bit_xor free (2 ^ label)) from ≡ false
-      left = bit_kept free label from (λ q. differ m.free-label (ap (bit free) (sym q) ∙ (m.trail.from s step).1)) ∙ (m.trail.from s step).1
+      left = bit_kept free label from (λ q. differ m.free_label (ap (bit free) (sym q) ∙ (m.trail.from s step).1)) ∙ (m.trail.from s step).1
 
       abbrev pub h' : ℕ
       h' = entry holders' from
@@ -134,7 +134,7 @@ module _ {sets taken holders reach : List ℕ} {free start before : ℕ} {by wor
         apart = λ t k. m.trail.once t s k step;
         same = λ t k. get_or-set_other reach' l (entry by t) (entry sets h') 0 (v.apart t (omega arith)) ∙ v.same t (omega arith);
         stays = λ w d. by-same w h'
-            (λ q. let g : entry (set taken' h' l) w < 64 = rw (q, get_or-set_same taken' h' l 0 (omega (arith, holder_few, v.linked.size-taken))) moving_small in
+            (λ q. let g : entry (set taken' h' l) w < 64 = rw (q, get_or-set_same taken' h' l 0 (omega (arith, holder_few, v.linked.size_taken))) moving_small in
             ⊎_elim (λ z. let f : entry taken w ≡ from = sym z ∙ ap (entry taken') q ∙ holder.1 in inr (rw f from_small, rw f (seen_outside m.trail s from (omega arith) found_by), g))
             (λ (a, b, c). inr (a, b, g)) (v.stays w d))
             (λ q. let o = get_or-set_other taken' h' w l 0 q in ⊎_elim (λ z. inl (o ∙ z)) (λ (a, b, c). inr (a, b, rw o c)) (v.stays w d));
@@ -162,14 +162,14 @@ module _ {sets taken holders reach : List ℕ} {free start before : ℕ} {by wor
         start_has = subst (λ j. seen_by start words j l ≡ true) z v.found
 
         at : entry (set taken' root l) root ≡ l
-        at = get_or-set_same taken' root l 0 (omega (arith, m.asked.node, v.linked.size-taken))
+        at = get_or-set_same taken' root l 0 (omega (arith, m.asked.node, v.linked.size_taken))
 
 -- ---- a chain: what is asked, and what comes of it
 
 module _ {sets taken holders reach : List ℕ} {free start before root : ℕ} (a : Asked sets taken holders reach free start before root) where
   pub asked_meeting : {by words : List ℕ} {count label : ℕ} → Trail reach free start before by words count → seen_by start words count label ≡ true → bit free label ≡ true
       → Meeting sets taken holders reach free start before by words count label root
-  asked_meeting t e f = record { asked = a; trail = t; met = e; free-label = f }
+  asked_meeting t e f = record { asked = a; trail = t; met = e; free_label = f }
 
   -- a label of `start` is free
   module _ (fit : start < 2 ^ 64) (z : bit_and start free ≡ 0 → ⊥) {l : ℕ} (q : l ≡ count_trailing_zeros 64 (bit_and start free)) where

@@ -115,22 +115,22 @@ module _ {reach : List ℕ} {free start before : ℕ} {by words : List ℕ} {cou
         → Trail reach free start before (set by count l) (set words count new) (count + 1)
     trail_more held new fit leads = record {
       few = omega (arith, trail_few);
-      size_by = simp length-set trail.size-by;
-      size_words = simp length-set trail.size-words;
+      size_by = simp length-set trail.size_by;
+      size_words = simp length-set trail.size_words;
       small = λ k e. ⊎_elim (λ h. trail.small k h) (λ h. bit_small new k fit h)
-          (or_split (seen_by start words count k) (bit new k) (sym (seen_more start words count new k (omega (arith, trail_few, trail.size-words))) ∙ e));
+          (or_split (seen_by start words count k) (bit new k) (sym (seen_more start words count new k (omega (arith, trail_few, trail.size_words))) ∙ e));
       begins = trail.begins;
       from = λ t h. by-same t count
-          (λ q. rw (q, get_or-set_same by count l 0 (omega (arith, trail_few, trail.size-by)), seen_kept start words count new count l (omega arith)) (seen, held))
+          (λ q. rw (q, get_or-set_same by count l 0 (omega (arith, trail_few, trail.size_by)), seen_kept start words count new count l (omega arith)) (seen, held))
           (λ q. rw (get_or-set_other by count t l 0 q, seen_kept start words count new t (entry by t) (omega arith)) (trail.from t (omega arith)));
       once = λ s t h k e.
           let a = get_or-set_other by count s l 0 (λ q. omega arith) in
           by-same t count
-          (λ q. fresh s (omega arith) (sym a ∙ e ∙ ap (entry (set by count l)) q ∙ get_or-set_same by count l 0 (omega (arith, trail_few, trail.size-by))))
+          (λ q. fresh s (omega arith) (sym a ∙ e ∙ ap (entry (set by count l)) q ∙ get_or-set_same by count l 0 (omega (arith, trail_few, trail.size_by))))
           (λ q. trail.once s t h (omega arith) (sym a ∙ e ∙ get_or-set_other by count t l 0 q));
       leads = λ t k h e. by-same t count
-          (λ q. let f : bit new k ≡ true = sym (ap (λ (x : ℕ). bit x k) (ap (entry (set words count new)) q ∙ get_or-set_same words count new 0 (omega (arith, trail_few, trail.size-words)))) ∙ e in
-          rw (q, get_or-set_same by count l 0 (omega (arith, trail_few, trail.size-by)), seen_kept start words count new count k (omega arith)) (leads k f))
+          (λ q. let f : bit new k ≡ true = sym (ap (λ (x : ℕ). bit x k) (ap (entry (set words count new)) q ∙ get_or-set_same words count new 0 (omega (arith, trail_few, trail.size_words)))) ∙ e in
+          rw (q, get_or-set_same by count l 0 (omega (arith, trail_few, trail.size_by)), seen_kept start words count new count k (omega arith)) (leads k f))
           (λ q. rw (get_or-set_other by count t l 0 q, seen_kept start words count new t k (omega arith))
           (trail.leads t k (omega arith) (sym (ap (λ (x : ℕ). bit x k) (get_or-set_other words count t new 0 q)) ∙ e)));
     }
@@ -230,7 +230,7 @@ module _ {reach : List ℕ} {free start before : ℕ} {by words : List ℕ} {cou
       trail = trail_more s.trail l from_seen fresh (s.held l from_seen) new new_fits new-bit
 
       seen_now : (k : ℕ) → seen_by start (set words count new) (count + 1) k ≡ (seen_by start words count k || bit new k)
-      seen_now k = seen_more start words count new k (omega (arith, turn_few, s.trail.size-words))
+      seen_now k = seen_more start words count new k (omega (arith, turn_few, s.trail.size_words))
 
       pub searching_met : (bit_and new free ≡ 0 → ⊥)
           → Searched reach free start before (set by count l) (set words count new) true (count_trailing_zeros 64 (bit_and new free)) (count + 1) seen
@@ -253,7 +253,7 @@ module _ {reach : List ℕ} {free start before : ℕ} {by words : List ℕ} {cou
         waits = λ k e. seen_now k ∙ ⊎_elim (λ h. left_true (bit new k) (s.waits k (true_but wait l k h).0)) (λ h. right_true (seen_by start words count k) h)
             (or_split (but wait l k) (bit new k) (sym (w k) ∙ e));
         passed = λ t h. by-same t count
-            (λ q. ap wait' (ap (entry (set by count l)) q ∙ get_or-set_same by count l 0 (omega (arith, turn_few, s.trail.size-by))) ∙ w l ∙ or_none_lem (but_self wait l) (old l from_seen))
+            (λ q. ap wait' (ap (entry (set by count l)) q ∙ get_or-set_same by count l 0 (omega (arith, turn_few, s.trail.size_by))) ∙ w l ∙ or_none_lem (but_self wait l) (old l from_seen))
             (λ q. let k = entry by t in
             ap wait' (get_or-set_other by count t l 0 q) ∙ w k ∙ or_none_lem
             (fails (but wait l k) (λ e. differ (true_but wait l k e).0 (s.passed t (omega arith))))
@@ -290,7 +290,7 @@ pub queue_empty : {layer next : ℕ} → Layers layer next → layer ≡ 0 → (
 queue_empty h z l = or_none_lem (ap (λ (w : ℕ). bit w l) z ∙ bit_zero l) (ap (λ (w : ℕ). bit w l) (h.last z) ∙ bit_zero l)
 
 pub in_layer : {layer next l : ℕ} → Layers layer next → (layer ≡ 0 → ⊥) → l ≡ count_trailing_zeros 64 layer → bit layer l ≡ true
-in_layer {layer} h some low = ap (bit layer) low ∙ (lowest layer h.fit-layer some).1
+in_layer {layer} h some low = ap (bit layer) low ∙ (lowest layer h.fit_layer some).1
 
 -- the layer without its lowest label l, and the next with new ones
 module _ {layer next : ℕ} (h : Layers layer next) (some : layer ≡ 0 → ⊥) (l : ℕ) (low : l ≡ count_trailing_zeros 64 layer)
@@ -300,7 +300,7 @@ module _ {layer next : ℕ} (h : Layers layer next) (some : layer ≡ 0 → ⊥)
 
   left_is : (k : ℕ) → bit left k ≡ but (bit layer) l k
   left_is k =
-      let (off, same) = lowest_off layer h.fit-layer some in
+      let (off, same) = lowest_off layer h.fit_layer some in
       by-same k l
       (λ q. ap (bit left) (q ∙ low) ∙ off ∙ sym (ap (but (bit layer) l) q ∙ but_self (bit layer) l))
       (λ q. same k (λ z. q (z ∙ sym low)) ∙ sym (but_other (bit layer) l k q))
@@ -308,7 +308,7 @@ module _ {layer next : ℕ} (h : Layers layer next) (some : layer ≡ 0 → ⊥)
   -- the layer goes on
   pub layers_same : (left ≡ 0 → ⊥) → Layers left (bit_or next new)
   layers_same z = record {
-    fit_layer = omega (arith, and_le_l layer (layer - 1), h.fit-layer);
+    fit_layer = omega (arith, and_le_l layer (layer - 1), h.fit_layer);
     fit_next = or_lt 64 next new h.fit_next fit;
     apart = λ k f. let (a, d) = true_but (bit layer) l k (sym (left_is k) ∙ f) in
         bit_or_lem next new k ∙ or_none_lem (h.apart k a) (fails (bit new k) (λ g. differ a (apart k g)));

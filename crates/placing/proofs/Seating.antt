@@ -53,7 +53,7 @@ module _ {n : ℕ} {sets : List ℕ} {own : List Bool} {taken holders reach : Li
     within = omega arith;
     linked = k;
     seated = record {
-      seat = λ w g z. by-same w u (λ q. absurd (let s = bit_small (entry sets u) (entry taken' u) (f.linked.fit-sets u) b in omega (arith, ap (entry taken') q)))
+      seat = λ w g z. by-same w u (λ q. absurd (let s = bit_small (entry sets u) (entry taken' u) (f.linked.fit_sets u) b in omega (arith, ap (entry taken') q)))
           (λ q. ⊎_elim (λ e. rw e (f.seated.seat w (omega arith) (omega arith))) (λ (x, y, v). absurd (omega arith)) (stays w q));
       later = λ w g l. ⊎_elim (λ e. e ∙ f.seated.later w (omega arith) l) (λ (x, y, v). absurd (omega (arith, f.seated.later w (omega arith) l))) (stays w (λ q. omega arith));
       vacant = λ w g l e. ⊎_elim (λ z. z ∙ f.seated.vacant w g l e) (λ (x, y, v). absurd (omega (arith, f.seated.vacant w g l e))) (stays w (λ q. differ (ap (flag own) (sym q) ∙ e) o));

@@ -1,7 +1,7 @@
 -- One node takes its lowest label with which all can be placed, and then the next.
 -- Assumes nothing.
 use mathlib.Core.Path.{◌≡◌, refl, sym, ap, ◌∙◌}
-use mathlib.Core.Bool.{Bool, true, false, not, ◌&&◌, ◌||◌, and-false, and_true as and-alone}
+use mathlib.Core.Bool.{Bool, true, false, not, ◌&&◌, ◌||◌, and-false, and-true as and-alone}
 use mathlib.Core.List.{List}
 use mathlib.Core.Logic.{◌⊎◌, ⊎_elim}
 use Prim.Native.Nat.{ℕ, ◌+◌, ◌^◌, ◌≤◌, ◌<◌}
@@ -40,14 +40,14 @@ module _ {sets taken holders reach : List ℕ} {free u : ℕ} (k : Linked sets t
   elsewhere w d = get_or-set_other taken u w 255 0 d
 
   away : entry (set taken u 255) u ≡ 255
-  away = get_or-set_same taken u 255 0 (omega (arith, k.size-taken))
+  away = get_or-set_same taken u 255 0 (omega (arith, k.size_taken))
 
   pub trying_none : {closed vacant : ℕ} → closed < 2 ^ 64 → (vacant < 2 ^ 64) × ((x : ℕ) → x < 64 → bit vacant x ≡ (bit free x || eqb x (entry taken u)))
       → Trying sets taken holders reach closed u vacant closed (bit_xor (bit_or (entry sets u) closed) closed)
   trying_none {closed} fit (fit-vacant, rest) = record {
     linked = linked_leave k h fit-vacant rest;
     fit_seen = fit;
-    fit_rest = without_fits (entry sets u) closed (k.fit-sets u) fit;
+    fit_rest = without_fits (entry sets u) closed (k.fit_sets u) fit;
     more = λ l e. e;
     left = bit_without (entry sets u) closed;
     barred = λ n own v l. barred_settled n sets own u (set taken u 255) closed v.within fit
@@ -116,7 +116,7 @@ module _ {sets taken holders reach : List ℕ} {free u : ℕ} (k : Linked sets t
     trying_more {start} {seen'} e = record {
       linked = t.linked;
       fit_seen = e.exhausted.fit;
-      fit_rest = without_fits rest seen' t.fit-rest e.exhausted.fit;
+      fit_rest = without_fits rest seen' t.fit_rest e.exhausted.fit;
       more = λ l c. grows l (t.more l c);
       left = λ l. bit_without rest seen' l ∙ by-test (bit seen' l)
           (λ b. rw b (and-false (bit rest l) ∙ sym (and-false (bit (entry sets u) l))))
@@ -131,7 +131,7 @@ module _ {sets taken holders reach : List ℕ} {free u : ℕ} (k : Linked sets t
     pub trying_less : {l seen' : ℕ} → l ≡ count_trailing_zeros 64 rest → (rest ≡ 0 → ⊥) → Ended reach vacant (2 ^ l) seen seen' → count_trailing_zeros 64 rest < count_trailing_zeros 64 (bit_xor (bit_or rest seen') seen')
     trying_less {l} {seen'} q z e = by-same rest' 0
         (λ y. rw (y, trailing_of_zero 64) low.0)
-        (λ y. let (a, b, c) = lowest rest' (without_fits rest seen' t.fit-rest e.exhausted.fit) y in
+        (λ y. let (a, b, c) = lowest rest' (without_fits rest seen' t.fit_rest e.exhausted.fit) y in
         let (i, o) = and_true (bit rest (count_trailing_zeros 64 rest')) (not (bit seen' (count_trailing_zeros 64 rest'))) (sym (bit_without rest seen' (count_trailing_zeros 64 rest')) ∙ b) in
         by-test (ltb (count_trailing_zeros 64 rest) (count_trailing_zeros 64 rest')) (ltb-true (count_trailing_zeros 64 rest) (count_trailing_zeros 64 rest'))
         (λ g. let h = ltb-false (count_trailing_zeros 64 rest) (count_trailing_zeros 64 rest') g in by-same (count_trailing_zeros 64 rest') (count_trailing_zeros 64 rest)
@@ -142,7 +142,7 @@ module _ {sets taken holders reach : List ℕ} {free u : ℕ} (k : Linked sets t
         rest' = bit_xor (bit_or rest seen') seen'
 
         low : (count_trailing_zeros 64 rest < 64) × (bit rest (count_trailing_zeros 64 rest) ≡ true) × ((x : ℕ) → x < count_trailing_zeros 64 rest → bit rest x ≡ false)
-        low = lowest rest t.fit-rest z
+        low = lowest rest t.fit_rest z
 
         began : bit seen' (count_trailing_zeros 64 rest) ≡ true
         began = e.exhausted.all (count_trailing_zeros 64 rest) ∙ right_true (bit seen (count_trailing_zeros 64 rest)) (seen_later (2 ^ l) e.words 0 e.count (count_trailing_zeros 64 rest) (omega arith)

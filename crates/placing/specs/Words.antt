@@ -135,7 +135,7 @@ pub record Meeting (sets taken holders reach : List ℕ) (free start before : �
   pub asked : Asked sets taken holders reach free start before root
   pub trail : Trail reach free start before by words count
   pub met : seen_by start words count label ≡ true
-  pub free-label : bit free label ≡ true
+  pub free_label : bit free label ≡ true
 
 -- what moves along the trail leave
 pub record Shifted (sets taken : List ℕ) (free start before label root : ℕ) (taken' holders' reach' : List ℕ) : Type 0 where

@@ -1,0 +1,14 @@
+-- `column_low` meets its contract. The loop's invariant: `at` is where the row r has the column, and `best` is its least over the first r rows but for `skip`.
+use Rattle.std.proofs.Common.{◌≡◌, ℕ, ◌+◌, ◌-◌, ◌*◌, ◌<◌, ◌≤◌, List, length, get_or, ℤ, pos, ap, ◌∙◌, ap₂, ⊎_elim, mul-le-mul_right, arith, w64, to_z, rules}
+use Rattle.integers.specs.Least.{min_ℤ}
+use Rattle.integers.proofs.Bits.{answer}
+use Rattle.messages.specs.EdgeMessage.{unbounded}
+use Rattle.messages.proofs.EdgeLaws.{cell_in}
+use Rattle.messages.proofs.UsableLaws.{least_but, but_none, but_skipped, but_more, but_all}
+use Rattle.messages.proofs.edge_message.column_low.Given as goal
+
+abbrev pub invariant-loop-r : goal.invariant-loop-r
+invariant-loop-r l = (l.r ≤ l.height) × (l.at ≡ l.width * l.r + l.k) × (to_z w64 l.best ≡ least_but (column l.cells l.width l.k) unbounded l.skip l.r)
+
+abbrev pub decreases-loop-r : goal.decreases-loop-r
+decreases-loop-r l = l.height - l.r

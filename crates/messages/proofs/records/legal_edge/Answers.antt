@@ -1,0 +1,55 @@
+-- `legal_edge` meets its contract, test by test.
+use Rattle.std.proofs.Common.{◌≡◌, ◌<◌, true, eqb, sym, ap, ◌∙◌, arith, rules}
+use Rattle.instance.specs.Instance.{Instance}
+use Rattle.instance.specs.Sheet.{instance_of}
+use Rattle.rules.specs.Run.{legal_share}
+use Rattle.messages.specs.declared.records.Record.{Record}
+use Rattle.messages.proofs.RecordLaws.{edge_no_share, edge_no_node, edge_none, edge_low, edge_high}
+use Rattle.messages.proofs.records.legal_edge.Goals as goal
+use Rattle.messages.proofs.records.legal_edge.Goals.{Start, Then-e-view, Then-legal_share, Then-u-view}
+
+module _ (q : Start) where
+  abbrev I : Instance
+  I = instance_of q.args.sheet.now
+
+  abbrev r : Record
+  r = q.args.step
+
+-- past the test of the share
+module _ (p : Then-legal_share) where
+  abbrev start : Start
+  start = (goal.at.Then-legal_share p).Start
+
+  shared : legal_share (r start).share ≡ true
+  shared = sym p.legal_share.ensures ∙ p.if-legal_share.true
+
+inner : (p : Then-u-view) → (let q = start (goal.at.Then-u-view p).Then-legal_share in (r q).node < (I q).node_count)
+inner p = omega (arith, p.if-u-view.true, (start (goal.at.Then-u-view p).Then-legal_share).requires.nodes)
+
+listed : (p : Then-e-view) → (let q = start (goal.at.Then-e-view p).Then-legal_share in (r q).index < (I q).edge_count)
+listed p = omega (arith, p.if-e-view.true, (start (goal.at.Then-e-view p).Then-legal_share).requires.edges)
+
+pub returns-then-u-low_end : goal.returns-then-u-low_end
+returns-then-u-low_end c =
+    let o = (goal.at.returns-then-u-low_end c).Then-legal_share in let q = start o in
+    edge_low (I q) (r q).node (r q).index (r q).share (shared o) (inner (goal.at.returns-then-u-low_end c).Then-u-view) (listed (goal.at.returns-then-u-low_end c).Then-e-view) (c.if-u-low_end.true ∙ c.low_end.ensures.0)
+
+pub returns-then-e-view : goal.returns-then-e-view
+returns-then-e-view c =
+    let o = (goal.at.returns-then-e-view c).Then-legal_share in let q = start o in
+    ap (eqb (r q).node) c.high_end.ensures.0
+    ∙ edge_high (I q) (r q).node (r q).index (r q).share (shared o) (inner (goal.at.returns-then-e-view c).Then-u-view) (listed (goal.at.returns-then-e-view c).Then-e-view) (λ z. c.if-u-low_end.false (z ∙ sym c.low_end.ensures.0))
+
+pub returns-else-e-view : goal.returns-else-e-view
+returns-else-e-view c =
+    let o = (goal.at.returns-else-e-view c).Then-legal_share in let q = start o in
+    edge_none (I q) (r q).node (r q).index (r q).share (shared o) (inner (goal.at.returns-else-e-view c).Then-u-view) (omega (arith, c.if-e-view.false, q.pre.edges))
+
+pub returns-else-u-view : goal.returns-else-u-view
+returns-else-u-view c =
+    let o = (goal.at.returns-else-u-view c).Then-legal_share in let q = start o in
+    edge_no_node (I q) (r q).node (r q).index (r q).share (shared o) (omega (arith, c.if-u-view.false, q.pre.nodes))
+
+pub returns-else-legal_share : goal.returns-else-legal_share
+returns-else-legal_share c =
+    let q = (goal.at.returns-else-legal_share c).Start in edge_no_share (I q) (r q).node (r q).index (r q).share (sym c.legal_share.ensures ∙ c.if-legal_share.false)

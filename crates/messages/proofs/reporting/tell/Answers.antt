@@ -1,0 +1,58 @@
+-- `tell` meets its contract: what was lent is good, so the bound counts, and one that is kept has a price.
+use Rattle.std.proofs.Common.{◌≡◌, ℕ, List, sym, ap, ◌∙◌, subst, ap₂, rules}
+use Rattle.integers.proofs.Bits.{same}
+use Rattle.instance.specs.Sheet.{instance_of}
+use Rattle.instance.proofs.LaidOut.{refusal_is}
+use Rattle.rules.specs.Costs.{Buffers}
+use Rattle.rules.specs.Calls as calls
+use Rattle.messages.specs.declared.view.View.{View}
+use Rattle.messages.specs.Lent.{lent}
+use Rattle.messages.specs.Seen.{view_of, Seen}
+use Rattle.messages.specs.Answers.{against}
+use Rattle.messages.proofs.IncumbentLaws.{kept_labelling}
+use Rattle.messages.proofs.LentLaws.{LentWell, lent_well, laid, seen_of, fit_of}
+use Rattle.messages.proofs.ReportLaws.{told-bound, told_kept}
+use Rattle.messages.proofs.reporting.tell.Goals as goal
+use Rattle.messages.proofs.reporting.tell.Goals.{Start}
+
+module _ (q : Start) where
+  abbrev sheet : List ℕ
+  sheet = q.args.sheet.now
+
+  abbrev lends : Buffers
+  lends = lent q.args.nodes.now q.args.labels.now q.args.edges.now q.args.incumbent.now
+
+  well : LentWell sheet q.args.limit lends
+  well = lent_well sheet q.args.limit lends q.requires.incumbent_value
+
+  unread : q.args.layout.refusal ≡ 0
+  unread = refusal_is sheet q.requires.layout_value.0 ∙ well.readable
+
+  seen : {v : View} → v ≡ view_of q.args.layout q.args.limit → Seen sheet v q.args.layout.starts q.args.layout.tables
+  seen e = subst (λ (x : View). Seen sheet x q.args.layout.starts q.args.layout.tables) (sym e) (seen_of sheet q.requires.layout_value.0 unread q.args.limit q.requires.layout_value.1)
+
+pub view_of-view-requires : goal.view_of-view-requires
+view_of-view-requires c =
+    let q = (goal.at.view_of-view-requires c).Start in let d = laid (sheet q) c.requires.layout_value.0 (unread q) in (d.nodes_few, d.positions_few, d.edges_few)
+
+pub lower_bound-bound-requires : goal.lower_bound-bound-requires
+lower_bound-bound-requires c =
+    let q = (goal.at.lower_bound-bound-requires c).Start in let t = seen q c.view_of-view.ensures in
+    record { viewed = (t.viewed, t.begun); node_fits = fit_of (sheet q) c.args.limit (lends q) c.requires.layout_value.1 (well q).lengths (well q).ranged }
+
+pub returns-then-none_kept : goal.returns-then-none_kept
+returns-then-none_kept c =
+    let q = (goal.at.returns-then-none_kept c).Start in ap calls.bound (same c.lower_bound-bound.result c.lower_bound-bound.type_inv ∙ c.lower_bound-bound.ensures.0) ∙ told-bound (sheet q) (lends q) (sym c.none_kept.ensures ∙ c.if-none_kept.true)
+
+pub price-requires : goal.price-requires
+price-requires c =
+    let q = (goal.at.price-requires c).Start in record { seen = seen q c.view_of-view.ensures; labelling = kept_labelling (instance_of (sheet q)) (well q).kept (well q).incumbent (sym c.none_kept.ensures ∙ c.if-none_kept.false) }
+
+pub answer-requires : goal.answer-requires
+answer-requires c =
+    (rw (same c.lower_bound-bound.result c.lower_bound-bound.type_inv) c.lower_bound-bound.ensures.1, rw (same c.price.result c.price.type_inv) c.price.ensures.1)
+
+pub returns : goal.returns
+returns c =
+    let q = (goal.at.returns c).Start in c.answer.ensures ∙ ap₂ against (same c.lower_bound-bound.result c.lower_bound-bound.type_inv ∙ c.lower_bound-bound.ensures.0) (same c.price.result c.price.type_inv ∙ c.price.ensures.0)
+    ∙ told_kept (sheet q) (lends q) (sym c.none_kept.ensures ∙ c.if-none_kept.false)

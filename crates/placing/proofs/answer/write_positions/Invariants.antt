@@ -1,0 +1,16 @@
+-- `write_positions` meets its contract: the bytes so far are ranks.
+-- Assumes nothing.
+use Prim.Native.Nat.{ℕ, ◌+◌, ◌-◌, ◌<◌}
+use mathlib.Core.Path.{sym, subst}
+use mathlib.Core.List.{List}
+use native.Mathlib.Omega.{arith}
+use lib.ListN.{length, set}
+use Rattle.integers.proofs.Filling.{Filling, fill_none, fill_more, fill_all}
+use Rattle.placing.specs.Words.{entry, rank}
+use Rattle.placing.proofs.answer.write_positions.Given as goal
+
+abbrev pub invariant-loop-u : goal.invariant-loop-u
+invariant-loop-u l = Filling (ranks l.sets l.taken) l.initial.out l.out l.u
+
+abbrev pub decreases-loop-u : goal.decreases-loop-u
+decreases-loop-u l = length l.initial.out - l.u

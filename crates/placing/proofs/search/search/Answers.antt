@@ -1,0 +1,98 @@
+-- `search` meets its contract: each turn is one of `Searching`.
+use Prim.Native.Nat.{ℕ, ◌-◌, ◌<◌}
+use mathlib.Core.Path.{◌≡◌}
+use mathlib.Core.Bool.{true}
+use native.Mathlib.Omega.{arith}
+use borrow.Author.Rules.{rules}
+use lib.Count.{count_trailing_zeros}
+use Rattle.integers.specs.Words.{bit, Words}
+use Rattle.integers.proofs.Places.{left_true}
+use Rattle.placing.proofs.Searching.{Searching, Layers, queue, layers_none, in_layer, queue_empty, searched_by, searching_none, searching_met, searching_ended, turn_small, turn_few, turn_same, turn_next, turn_last}
+use Rattle.placing.proofs.search.search.Goals as goal
+use Rattle.placing.proofs.search.search.Goals.{After-lowest-l, At-loop-layer}
+
+-- inside the loop: the label of the turn
+module _ (c : After-lowest-l) where
+  abbrev head : At-loop-layer
+  head = (goal.at.After-lowest-l c).At-loop-layer
+
+  abbrev l : ℕ
+  l = c.lowest-l.result
+
+  abbrev fits : Words head.args.reach.now
+  fits = head.requires.0
+
+  abbrev some : head.loop-layer.layer ≡ 0 → ⊥
+  some = c.loop-layer-test.true
+
+  abbrev low : l ≡ count_trailing_zeros 64 head.loop-layer.layer
+  low = c.lowest-l.ensures
+
+  left : queue head.loop-layer.layer head.loop-layer.next l ≡ true
+  left = left_true (bit head.loop-layer.next l) (in_layer head.loop-layer.invariant.1 some low)
+
+  small : c.lowest-l.result < 64
+  small = turn_small head.loop-layer.invariant.0 l left
+
+  few : head.loop-layer.count < 64
+  few = turn_few head.loop-layer.invariant.0 l left
+
+pub loop-layer-init : goal.loop-layer-init
+loop-layer-init c =
+    (searching_none c.requires.1 c.requires.2 c.ranges.start.fits c.requires.4 c.requires.3 c.ranges.before.fits, layers_none c.args.start c.ranges.start.fits)
+
+pub returns-then-met-ne0 : goal.returns-then-met-ne0
+returns-then-met-ne0 c =
+    let t = (goal.at.returns-then-met-ne0 c).After-way_told-in-loop-layer-1 in searched_by (searching_met (head t).loop-layer.invariant.0 (l t) (left t) (fits t) c.if-met-ne0.true) c.met_at.ensures
+
+pub returns-then-all-eq0 : goal.returns-then-all-eq0
+returns-then-all-eq0 c =
+    let t = (goal.at.returns-then-all-eq0 c).After-way_told-in-loop-layer-1 in searched_by (turn_last (head t).loop-layer.invariant.0 (head t).loop-layer.invariant.1 (fits t) (some t) (l t) (low t) c.if-met-ne0.false c.if-left-eq0.true c.if-all-eq0.true) c.none_at.ensures
+
+pub loop-layer-preserved-then-left-eq0 : goal.loop-layer-preserved-then-left-eq0
+loop-layer-preserved-then-left-eq0 c =
+    let t = (goal.at.loop-layer-preserved-then-left-eq0 c).After-way_told-in-loop-layer-1 in turn_next (head t).loop-layer.invariant.0 (head t).loop-layer.invariant.1 (fits t) (some t) (l t) (low t) c.if-met-ne0.false c.if-left-eq0.true
+
+pub loop-layer-preserved : goal.loop-layer-preserved
+loop-layer-preserved c =
+    let t = (goal.at.loop-layer-preserved c).After-way_told-in-loop-layer-1 in turn_same (head t).loop-layer.invariant.0 (head t).loop-layer.invariant.1 (fits t) (some t) (l t) (low t) c.if-met-ne0.false c.if-left-eq0.false
+
+pub returns : goal.returns
+returns c =
+    let h = c.loop-layer.invariant in searched_by (searching_ended h.0 (queue_empty h.1 c.loop-layer-test.false)) c.none_at-2.ensures
+
+pub lowest-l-requires : goal.lowest-l-requires
+lowest-l-requires c = c.loop-layer-test.true
+
+pub offset_bounds-reach-l : goal.offset_bounds-reach-l
+offset_bounds-reach-l c = omega (arith, small c)
+
+pub bounds-reach-l : goal.bounds-reach-l
+bounds-reach-l c = small c
+
+pub overflow_cast-by : goal.overflow_cast-by
+overflow_cast-by c = omega (arith, small (goal.at.overflow_cast-by c).After-way_told-1)
+
+pub bounds-by-count : goal.bounds-by-count
+bounds-by-count c = few (goal.at.bounds-by-count c).After-new-1
+
+pub offset_bounds-words-count : goal.offset_bounds-words-count
+offset_bounds-words-count c = omega (arith, few (goal.at.offset_bounds-words-count c).After-new-1)
+
+pub bounds-words-count : goal.bounds-words-count
+bounds-words-count c = few (goal.at.bounds-words-count c).After-way_told-in-loop-layer-1
+
+pub overflow_add-count : goal.overflow_add-count
+overflow_add-count c = omega (arith, few (goal.at.overflow_add-count c).After-way_told-in-loop-layer-1)
+
+pub met_at-requires : goal.met_at-requires
+met_at-requires c = c.if-met-ne0.true
+
+pub overflow_sub-left : goal.overflow_sub-left
+overflow_sub-left c = omega (arith, some (goal.at.overflow_sub-left c).After-way_told-in-loop-layer-1)
+
+pub loop-layer-smaller-then-left-eq0 : goal.loop-layer-smaller-then-left-eq0
+loop-layer-smaller-then-left-eq0 c = omega (arith, few (goal.at.loop-layer-smaller-then-left-eq0 c).After-way_told-in-loop-layer-1)
+
+pub loop-layer-smaller : goal.loop-layer-smaller
+loop-layer-smaller c = omega (arith, few (goal.at.loop-layer-smaller c).After-way_told-in-loop-layer-1)

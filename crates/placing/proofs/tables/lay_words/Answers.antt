@@ -1,0 +1,117 @@
+-- `lay_words` meets its contract: the nodes so far are laid out.
+-- Assumes nothing.
+use Prim.Native.Nat.{ℕ, ◌+◌, ◌-◌, ◌≤◌, ◌<◌}
+use mathlib.Core.Path.{◌≡◌, sym, ap₂, subst}
+use mathlib.Core.List.{List}
+use native.Mathlib.Omega.{arith}
+use borrow.Author.Rules.{rules}
+use lib.ListN.{length, take, drop}
+use Rattle.instance.specs.Instance.{Instance, first}
+use Rattle.instance.specs.Sheet.{instance_of}
+use Rattle.instance.specs.Readable.{Readable}
+use Rattle.instance.proofs.Readable.{readable}
+use Rattle.placing.specs.Words.{entry, Laid}
+use Rattle.placing.specs.Labels.{Labels, Worded}
+use Rattle.placing.proofs.Laying.{Laying, laid_none, laid_more, bytes_of, bytes_inside, bytes_labels}
+use Rattle.placing.proofs.tables.lay_words.Goals as goal
+use Rattle.placing.proofs.tables.lay_words.Goals.{After-wide, In-loop-u, Start}
+
+-- a turn's node
+module _ (t : In-loop-u) where
+  abbrev start : Start
+  start = (goal.at.In-loop-u t).Start
+
+  abbrev s : List ℕ
+  s = start.args.sheet.now
+
+  abbrev I : Instance
+  I = instance_of s
+
+  abbrev u : ℕ
+  u = t.loop-u.u
+
+  sound : Readable s
+  sound = readable s start.requires.sheet_value.0
+
+  node : u < I.node_count
+  node = omega (arith, t.loop-u-test.true, start.requires.sheet_value.1)
+
+  few : u < 64
+  few = omega (arith, node, sound.proper.nodes_few)
+
+  abbrev from : ℕ
+  from = start.args.n + entry start.args.starts.now u
+
+  from_is : from ≡ I.node_count + first I u
+  from_is = ap₂ ◌+◌ start.requires.sheet_value.1 (start.requires.sheet_value.2 u t.loop-u-test.true)
+
+  inside : from + I.degree u ≤ length s
+  inside = omega (arith, from_is, bytes_inside sound node)
+
+-- where its labels end
+module _ (c : After-wide) where
+  abbrev turn : In-loop-u
+  turn = (goal.at.After-wide c).After-way_told-1
+
+  degree : c.wide.result ≡ (I turn).degree (u turn)
+  unfolding instance_of
+  degree = c.wide.ensures.0
+
+  abbrev past : ℕ
+  past = from turn + c.wide.result
+
+  row_is : take (past - from turn) (drop (from turn) (s turn)) ≡ bytes_of (s turn) (u turn)
+  row_is = let e : past - from turn ≡ (I turn).degree (u turn) = omega (arith, degree) in ap₂ (λ (d a : ℕ). take d (drop a (s turn))) e (from_is turn)
+
+pub loop-u-init : goal.loop-u-init
+loop-u-init c =
+    let q = c.requires.sets_len in (omega arith, record { laid = laid_none _ q.2; size_sets = q.0; size_own = q.1 })
+
+pub offset_bounds-starts-u : goal.offset_bounds-starts-u
+offset_bounds-starts-u c = omega (arith, few c)
+
+pub bounds-starts-u : goal.bounds-starts-u
+bounds-starts-u c = few c
+
+pub overflow_add-from : goal.overflow_add-from
+overflow_add-from c = let t = (goal.at.overflow_add-from c).After-way_told-1 in omega (arith, inside t, (sound t).short)
+
+pub bounds-sheet-u : goal.bounds-sheet-u
+bounds-sheet-u c =
+    let t = (goal.at.bounds-sheet-u c).After-way_told-1 in omega (arith, node t, bytes_inside (sound t) (node t))
+
+pub overflow_add-past : goal.overflow_add-past
+overflow_add-past c = omega (arith, inside (turn c), (sound (turn c)).short, degree c)
+
+pub slice_bounds-row_of-end : goal.slice_bounds-row_of-end
+slice_bounds-row_of-end c = omega (arith, inside (turn c), degree c)
+
+pub row_of-row-requires : goal.row_of-row-requires
+row_of-row-requires c =
+    let b = (goal.at.row_of-row-requires c).After-wide in subst (λ l. Labels (entry l) (length l)) (sym (row_is b)) (bytes_labels (sound (turn b)) (node (turn b)))
+
+pub offset_bounds-sets-u : goal.offset_bounds-sets-u
+offset_bounds-sets-u c = omega (arith, few (turn (goal.at.offset_bounds-sets-u c).After-wide))
+
+pub bounds-sets-u : goal.bounds-sets-u
+bounds-sets-u c = few (turn (goal.at.bounds-sets-u c).After-row_of-arg-1)
+
+pub bounds-own-u : goal.bounds-own-u
+bounds-own-u c = few (turn (goal.at.bounds-own-u c).After-row_of-row)
+
+pub overflow_add-u : goal.overflow_add-u
+overflow_add-u c = omega (arith, few (turn (goal.at.overflow_add-u c).After-row_of-row))
+
+pub loop-u-smaller : goal.loop-u-smaller
+loop-u-smaller c = omega (arith, (turn (goal.at.loop-u-smaller c).After-row_of-row).loop-u-test.true)
+
+pub loop-u-preserved : goal.loop-u-preserved
+loop-u-preserved c =
+    let b = (goal.at.loop-u-preserved c).After-row_of-row in let t = turn b in
+    let w = subst (λ l. Worded (entry l) (length l) c.row_of-row.result.word c.row_of-row.result.own) (row_is b) c.row_of-row.ensures in
+    (omega (arith, t.loop-test.taken), laid_more (sound t) (node t) w t.before.loop.inv.1)
+
+pub returns : goal.returns
+returns c =
+    let e : c.loop-u.u ≡ c.args.n = omega (arith, c.loop-u.invariant.0, c.loop-u-test.false) in
+    subst (λ n. Laid (instance_of c.args.sheet.now) n c.loop-u.sets c.loop-u.own) e c.loop-u.invariant.1.laid
