@@ -93,7 +93,7 @@ class Function:
         """The parts behind a place's step."""
         old = norm(comps[0])
         if comps[0] in KEEP_STEPS or old in ("fits-ranges",):
-            first = {"pre": "requires", "type-inv": "type_inv"}.get(comps[0], comps[0])
+            first = {"pre": "requires", "type-inv": "type_inv", "fits": "ranges"}.get(comps[0], comps[0])
             rest = list(comps[1:])
             if first == "requires":
                 turned = nested(rest, self.own[0])
@@ -107,6 +107,14 @@ class Function:
             if self.step.get(q) and norm(self.step[q][0]) == old:
                 break
             q = self.parent.get(q)
+        if q is None:
+            # the older chain had a place more or less: the nearest step of that name on the way from the root
+            c, last = self.top, None
+            while c is not None and c != place:
+                if self.step.get(c) and norm(self.step[c][0]) == old:
+                    last = c
+                c = self.parent.get(c)
+            q = last
         if q is None:
             self.said.append(f"no step {comps[0]} at {place}")
             return list(comps)
@@ -123,6 +131,10 @@ class Function:
             rest[0] = "invariant"
         if rest[:1] == ["taken"]:
             rest[0] = "true"
+        if rest[:1] == ["left"] and (norm(old).startswith("if") or norm(old).endswith("test")):
+            rest[0] = "false"
+        if rest[:1] == ["ok"]:
+            rest[0] = "type_inv"
         if rest[:1] == ["last"]:
             k = 0
             rest = rest[1:]
@@ -159,13 +171,11 @@ class Function:
         return f"(goal.at.{kind} {root}).{self.new[q]}"
 
     def walk(self, root, place, kind, comps):
+        self.top = place
         q = self.plain(place)
         i = 0
         while i < len(comps) and comps[i] == "before":
-            q = self.up(q)
-            if q is None:
-                self.said.append(f"{root} goes before its start")
-                return root + "." + ".".join(comps)
+            q = self.up(q) or q
             i += 1
         rest = comps[i:]
         if not rest:
@@ -198,12 +208,6 @@ class Function:
             i = m.end()
             # (helper x).chain
         text = "".join(result)
-        for helper, place in self.helpers.items():
-            def sub(m, helper=helper, place=place):
-                comps = [x for x in m.group(2).split(".") if x]
-                w = self.walk(m.group(1), place, self.new[place], comps)
-                return w[0] if isinstance(w, tuple) else w
-            text = re.sub(rf"(\({re.escape(helper)}(?: {ID}(?:\.{ID})*| \([^()]*(?:\([^()]*\))?[^()]*\)(?:\.{ID})*)+\))((?:\.{ID})+)", sub, text)
         return text
 
     def lets(self, text, env):
@@ -226,10 +230,7 @@ class Function:
             q = place
             q = self.plain(q)
             for _ in range(m.group(3).count(".before")):
-                q = self.up(q)
-            if q is None:
-                self.said.append(f"{m.group(0).strip()} goes before its start")
-                return text, env
+                q = self.up(q) or q
             if m.group(4):
                 # the clauses have names: each path is written out
                 v = m.group(1)
@@ -244,6 +245,11 @@ class Function:
             bare = len(re.findall(rf"(?<![^\s(){{}},]){re.escape(m.group(1))}(?![^\s(){{}},])", text[m.end():]))
             if bare > 1:
                 r, p, k, c = self.resolve(m.group(1))
+                asked = {self.expected.get(h) for h in re.findall(rf"({ID}) {re.escape(m.group(1))}(?![^\s(){{}},])", text[m.end():])} - {None}
+                if len(asked) == 1:
+                    c = asked.pop()
+                    self.alias[m.group(1)] = (r, p, k, c)
+                    env[m.group(1)] = ("@" + m.group(1), c, None)
                 term = self.place_of(r, p, k, c)
                 self.kept[m.group(1)] = True
                 text = text[: m.start()] + f"\2let {m.group(1)} \3= {term} in\2 " + text[m.end():]
@@ -260,6 +266,11 @@ class Function:
         # an answer that another cites has its goal's name
         text = re.sub(rf"(?<![^\s(){{}},]){ID}(?![^\s(){{}},])", lambda m: self.renamed.get(m.group(0), m.group(0)), text)
         self.alias, self.kept = {}, {}
+        env = dict(env)
+        for m in re.finditer(rf"\blet ({ID}) = ({ID}) (?:{ID}|\([^()]*\))+(?:\.{ID})* in\b", text):
+            if m.group(2) in self.helpers and m.group(1) not in env:
+                p = self.helpers[m.group(2)]
+                env[m.group(1)] = (m.group(1), p, self.new[p])
         text, env = self.lets(text, env)
         final = {}
         for v, (root, place, kind) in env.items():
@@ -282,12 +293,10 @@ class Function:
             c = q
             i = 0
             while i < len(comps) and comps[i] == "before":
-                c = self.up(c)
+                c = self.up(c) or c
                 i += 1
             rest = comps[i:]
-            if c is None:
-                self.said.append(f"{m.group(0)} goes before its start")
-                return m.group(0)
+            self.top = p
             if not rest:
                 return "\0" + (head if head in self.kept and c == q else self.place_of(r, p, k, c)) + "\0"
             return "\0" + r + "." + ".".join(self.field(c, rest)) + "\0"
@@ -302,16 +311,49 @@ class Function:
         for i in range(0, len(parts), 2):
             parts[i] = self.turn(parts[i], plain)
         joined = "".join(parts)
-        # (helper ALIAS).chain, whose argument is turned by now
-        for helper, place in self.helpers.items():
-            def sub2(m, place=place):
-                comps = [x for x in m.group(2).split(".") if x]
-                if any(x == "before" for x in comps) or norm(comps[0]) in [norm(s[0]) for s in self.step.values() if s] and comps[0] not in [s[1] for s in self.step.values() if s]:
-                    w = self.walk(m.group(1), place, self.new[place], comps)
-                    return w[0] if isinstance(w, tuple) else w
-                return m.group(0)
-            joined = re.sub(rf"(\({re.escape(helper)} (?:\([^()]*\)(?:\.{ID})*|{ID}(?:\.{ID})*)\))((?:\.{ID})+)", sub2, joined)
+        roots = {r: (p, k) for r, p, k in plain.values()}
+        for h, e in self.expected.items():
+            def fit(m, h=h, e=e):
+                k, r = m.group(1), m.group(2)
+                p = next((p for rr, (p, kk) in roots.items() if rr == r), None)
+                self.places_used.add(e)
+                return f"{h} (goal.at.{k} {r}).{self.new[e]}"
+            joined = re.sub(rf"(?<![^\s(){{}},]){re.escape(h)} \(goal\.at\.({ID}) ({ID})\)\.{ID}(?!\.)", fit, joined)
+            for r, (p, k) in roots.items():
+                if p != e and self.plain(p) != e or p != e:
+                    def fit2(m, h=h, e=e, k=k, r=r):
+                        self.places_used.add(e)
+                        return f"{h} (goal.at.{k} {r}).{self.new[e]}"
+                    joined = re.sub(rf"(?<![^\s(){{}},]){re.escape(h)} {re.escape(r)}(?![^\s(){{}},])", fit2, joined)
+        joined = self.behind(joined)
+        joined = re.sub(rf"\(to_z w64 ((?:{ID}(?:\.{ID})*|\([^()]*(?:\([^()]*\))?[^()]*\)(?:\.{ID})*)\.loop-[\w'-]*\.\w+)\)", r"\1", joined)
+        joined = re.sub(rf"(?<![\w(])to_z w64 ({ID}(?:\.{ID})*\.loop-[\w'-]*\.\w+)", r"\1", joined)
         return joined
+
+    def behind(self, text):
+        """The paths behind an application, (helper x).path, of a lemma that gives a place."""
+        for helper, place in self.helpers.items():
+            at = 0
+            while True:
+                i = text.find("(" + helper + " ", at)
+                if i < 0:
+                    break
+                depth, j = 0, i
+                while j < len(text):
+                    depth += text[j] == "("
+                    depth -= text[j] == ")"
+                    j += 1
+                    if depth == 0:
+                        break
+                m = re.match(rf"((?:\.{ID})+)", text[j:])
+                at = i + 1
+                if m:
+                    comps = [x for x in m.group(1).split(".") if x]
+                    w = self.walk(text[i:j], place, self.new[place], comps)
+                    new = w[0] if isinstance(w, tuple) else w
+                    text = text[:i] + new + text[j + m.end():]
+                    at = i + (new.index(text[i:j]) if text[i:j] in new else 0) + 1
+        return text
 
     # ---- the file
 
@@ -377,6 +419,23 @@ class Function:
                 m = re.match(rf"\s*(?:abbrev |pub )*({ID}) : (.*→ )?tie\.({ID})(?: invariant-loop decreases-loop)?$", l)
                 if m and norm(m.group(3)) in self.new:
                     self.helpers[m.group(1)] = norm(m.group(3))
+        # the place that a lemma's first argument has
+        self.expected = {}
+        for b in blocks:
+            section = None
+            for l in b:
+                m = re.match(rf"\s*module _ \({ID} : tie\.({ID})", l)
+                if m:
+                    section = norm(m.group(1))
+                    continue
+                m = re.match(rf"(\s*)(?:abbrev |pub )*({ID}) : (.*)$", l)
+                if m:
+                    q = re.match(rf"(?:\({ID} : )?tie\.({ID})", m.group(3))
+                    if section and m.group(1):
+                        self.expected[m.group(2)] = section
+                    elif q and not q.group(1).startswith("Need-") and " → " in l and norm(q.group(1)) in self.new:
+                        self.expected[m.group(2)] = norm(q.group(1))
+        self.expected = {h: e for h, e in self.expected.items() if e in self.new}
         out, invs = [], []
         self.local = set()
         for b in blocks:
@@ -419,6 +478,24 @@ class Function:
             place = norm(asked[i][0])
             body = self.body(m.group(2), {m.group(1): (m.group(1), place, n)})
             out.append(f"pub {n} : goal.{n}\n{n} {m.group(1)} = {self.tupled(i, body)}")
+        base = f"Rattle.{self.crate}.proofs." + ".".join(os.path.relpath(self.folder, os.path.join("crates", self.crate, "proofs")).split(os.sep))
+        moved, moved_names = [], []
+        for _ in range(3):
+            for o in list(out):
+                first = next((x for x in o.split("\n") if x.strip() and not x.startswith("--")), "")
+                m = re.match(rf"(?:abbrev |pub |unfoldable )*({ID}) : ", first)
+                if m and not first.startswith("pub ") and "goal." not in o and any(re.search(rf"(?<![\w'.-]){re.escape(m.group(1))}(?![\w'-])", v) for v in invs + moved):
+                    out.remove(o)
+                    o = o.replace("abbrev " + m.group(1), "abbrev pub " + m.group(1), 1) if first.startswith("abbrev ") else o.replace(first, "pub " + first, 1)
+                    moved.insert(0, o.strip("\n"))
+                    moved_names.insert(0, m.group(1))
+                elif m is None and re.match(r"(pub )?record ", first):
+                    n = re.match(rf"(?:pub )?record ({ID})", first).group(1)
+                    if any(re.search(rf"(?<![\w'.-]){re.escape(n)}(?![\w'-])", v) for v in invs + moved):
+                        out.remove(o)
+                        moved.insert(0, (o if first.startswith("pub ") else o.replace(first, "pub " + first, 1)).strip("\n"))
+                        moved_names.insert(0, n)
+        invs = moved + invs
         kept = [u for u in uses if ".Statement.{" not in u and not u.endswith(".Tie as tie")]
         base = f"Rattle.{self.crate}.proofs." + ".".join(os.path.relpath(self.folder, os.path.join("crates", self.crate, "proofs")).split(os.sep))
         if invs:
@@ -428,6 +505,9 @@ class Function:
         if out:
             named = sorted({self.new[p] for p in self.places_used if any(re.search(rf"(?<![\w.-]){re.escape(self.new[p])}(?![\w-])", o) for o in out)})
             lines = head + kept + [f"use {base}.Goals as goal"]
+            cited = [n for n in moved_names if any(re.search(rf"(?<![\w'.-]){re.escape(n)}(?![\w'-])", o) for o in out)]
+            if cited:
+                lines.append(f"use {base}.Invariants.{{{', '.join(cited)}}}")
             if named:
                 lines.append(f"use {base}.Goals.{{{', '.join(named)}}}")
             with open(os.path.join(self.folder, "Answers.antt"), "w", encoding="utf-8") as f:
@@ -492,6 +572,8 @@ class Function:
             elif s in subst and not (out and out[-1] == ".") and not any(s in x[1] for x in shadows):
                 s = subst[s]
             out += s
+        out = re.sub(r"\(to_z w64 (l\.(?:initial\.)?\w+)\)", r"\1", out)
+        out = re.sub(r"to_z w64 (l\.(?:initial\.)?\w+)", r"\1", out)
         new_name = f"{kind}-{new}"
         return "\n".join(comments + [f"abbrev pub {new_name} : goal.{new_name}", f"{new_name} l ={' ' if not out.startswith(chr(10)) else ''}{out}"])
 
@@ -510,7 +592,8 @@ class Function:
         body = self.body(m.group(2), {var: (var, place, new)} if var != "_" else {})
         body = self.tupled(i, body)
         sep = "\n    " if "\n" in m.group(2).strip() or len(body) > 100 else " "
-        return "\n".join(comments + [f"pub {new} : goal.{new}"] + unf + [f"{new} {var} ={sep}{body.strip()}"])
+        more = "".join(" " + a for a in args[1:] if a != "κs")
+        return "\n".join(comments + [f"pub {new} : goal.{new}"] + unf + [f"{new} {var}{more} ={sep}{body.strip()}"])
 
     def tupled(self, i, body):
         """An answer of several clauses is a record of them."""

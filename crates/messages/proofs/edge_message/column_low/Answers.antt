@@ -6,11 +6,8 @@ use Rattle.messages.specs.EdgeMessage.{unbounded}
 use Rattle.messages.proofs.EdgeLaws.{cell_in}
 use Rattle.messages.proofs.UsableLaws.{least_but, but_none, but_skipped, but_more, but_all}
 use Rattle.messages.proofs.edge_message.column_low.Goals as goal
+use Rattle.messages.proofs.edge_message.column_low.Invariants.{column}
 use Rattle.messages.proofs.edge_message.column_low.Goals.{In-loop-r, Start}
-
--- the column's cell of each row
-abbrev column : List ℤ → ℕ → ℕ → ℕ → ℤ
-column l w k = λ r. get_or l (w * r + k) (pos 0)
 
 -- the column's cell of this turn is one of the table
 module _ (c : In-loop-r) where

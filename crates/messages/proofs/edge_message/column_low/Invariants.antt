@@ -7,8 +7,12 @@ use Rattle.messages.proofs.EdgeLaws.{cell_in}
 use Rattle.messages.proofs.UsableLaws.{least_but, but_none, but_skipped, but_more, but_all}
 use Rattle.messages.proofs.edge_message.column_low.Given as goal
 
+-- the column's cell of each row
+abbrev pub column : List ℤ → ℕ → ℕ → ℕ → ℤ
+column l w k = λ r. get_or l (w * r + k) (pos 0)
+
 abbrev pub invariant-loop-r : goal.invariant-loop-r
-invariant-loop-r l = (l.r ≤ l.height) × (l.at ≡ l.width * l.r + l.k) × (to_z w64 l.best ≡ least_but (column l.cells l.width l.k) unbounded l.skip l.r)
+invariant-loop-r l = (l.r ≤ l.height) × (l.at ≡ l.width * l.r + l.k) × (l.best ≡ least_but (column l.cells l.width l.k) unbounded l.skip l.r)
 
 abbrev pub decreases-loop-r : goal.decreases-loop-r
 decreases-loop-r l = l.height - l.r

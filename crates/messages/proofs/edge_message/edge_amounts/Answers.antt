@@ -42,17 +42,17 @@ module _ (c : After-least_by-amounts) where
 low : (c : After-least_of-low) → to_z w64 (of_z w64 c.least_of-low.result) ≡ least_of (usable_cells (b (goal.at.After-least_of-low c).After-least_by-amounts) (own (goal.at.After-least_of-low c).After-least_by-amounts) (other (goal.at.After-least_of-low c).After-least_by-amounts) (cells (goal.at.After-least_of-low c).After-least_by-amounts))
 low c =
     let p = (goal.at.After-least_of-low c).After-least_by-amounts in answer c.least_of-low.type_inv c.least_of-low.ensures ∙ ap (λ (l : List ℤ). least_of (take (length (own p)) l)) c.least_by-amounts.ensures
-    ∙ edge_least_lem (q p).requires.0 (q p).requires.1.1
+    ∙ edge_least_lem (q p).requires.ends (q p).requires.within
 
 pub turn_all-requires : goal.turn_all-requires
 turn_all-requires c =
-    let p = (goal.at.turn_all-requires c).After-least_by-amounts in record { many_bound = (few p, long p); le_share = ((q p).requires.1.0, rw (low (goal.at.turn_all-requires c).After-least_of-low) (low_within (q p).requires.0 (q p).requires.1.1)); by_index = λ k h. rw (ap (λ (l : List ℤ). get_or l k (pos 0)) c.least_by-amounts.ensures ∙ over_at (f p) (length (own p)) zeros k h) (position_within (q p).requires.0 (q p).requires.1.1 k) }
+    let p = (goal.at.turn_all-requires c).After-least_by-amounts in record { many_bound = (few p, long p); le_share = ((q p).requires.le_share, rw (low (goal.at.turn_all-requires c).After-least_of-low) (low_within (q p).requires.ends (q p).requires.within)); by_index = λ k h. rw (ap (λ (l : List ℤ). get_or l k (pos 0)) c.least_by-amounts.ensures ∙ over_at (f p) (length (own p)) zeros k h) (position_within (q p).requires.ends (q p).requires.within k) }
 
 pub returns : goal.returns
 returns c =
     let p = (goal.at.returns c).After-least_by-amounts in let e = c.least_by-amounts.ensures in
     c.turn_all.ensures ∙ (λ i. over (λ k. turned_least (get_or (e i) k (pos 0)) (low (goal.at.returns c).After-least_of-low i) (q p).args.share) (length (own p)) (e i))
-    ∙ edge_is (q p).requires.0 (q p).requires.1.1 (q p).args.share
+    ∙ edge_is (q p).requires.ends (q p).requires.within (q p).args.share
 
 pub slice_bounds-amounts-end : goal.slice_bounds-amounts-end
 slice_bounds-amounts-end c = omega (arith, few c, long c)
@@ -61,4 +61,4 @@ pub slice_bounds-least_of-end : goal.slice_bounds-least_of-end
 slice_bounds-least_of-end c = sym (taken (goal.at.slice_bounds-least_of-end c).After-least_by-amounts)
 
 pub least_of-low-requires : goal.least_of-low-requires
-least_of-low-requires c = let p = (goal.at.least_of-low-requires c).After-least_by-amounts in omega (arith, taken p, own_some (b p) (q p).requires.0)
+least_of-low-requires c = let p = (goal.at.least_of-low-requires c).After-least_by-amounts in omega (arith, taken p, own_some (b p) (q p).requires.ends)

@@ -8,7 +8,7 @@ use Rattle.messages.proofs.ExcessLaws.{Joining, joining_none, joining_more, join
 use Rattle.messages.proofs.edge_message.excess_all.Given as goal
 
 abbrev pub invariant-loop-k : goal.invariant-loop-k
-invariant-loop-k l = Joining (λ j. within l.limit (get_or l.line j (pos 0) +ℤ to_z w64 l.amount)) (length l.line) l.k l.all
+invariant-loop-k l = Joining (λ j. within l.limit (get_or l.line j (pos 0) +ℤ l.amount)) (length l.line) l.k l.all
 
 abbrev pub decreases-loop-k : goal.decreases-loop-k
 decreases-loop-k l = length l.line - l.k

@@ -42,7 +42,7 @@ pub loop-k-init : goal.loop-k-init
 loop-k-init c = let s = (goal.at.loop-k-init c).After-either-height in written_none _ _ zeros (own_few (b s) (q s).requires)
 
 pub clash-skip-requires : goal.clash-skip-requires
-clash-skip-requires c = ((q (goal.at.clash-skip-requires c).After-either-height).pre.rises, c.mask_of-mask.ensures)
+clash-skip-requires c = ((q (goal.at.clash-skip-requires c).After-either-height).requires.rises, c.mask_of-mask.ensures)
 
 pub bounds-least-k : goal.bounds-least-k
 bounds-least-k c = let s = (goal.at.bounds-least-k c).After-either-height in omega (arith, own_few (b s) (q s).requires, c.loop-k-test.true)

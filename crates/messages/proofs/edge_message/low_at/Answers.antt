@@ -33,7 +33,7 @@ column_low-requires c =
 pub returns-then-by_row : goal.returns-then-by_row
 returns-then-by_row c =
     let t = (goal.at.returns-then-by_row c).Then-by_row in let x = c.args in
-    answer c.least_but.type_inv c.least_but.ensures ∙ ap (told (q t)) (row_part (q t).requires.0 x.k refl ∙ ap (line (q t)) (sym c.if-by_row.true))
+    answer c.least_but.type_inv c.least_but.ensures ∙ ap (told (q t)) (row_part (q t).requires.shape x.k refl ∙ ap (line (q t)) (sym c.if-by_row.true))
 
 pub returns-else-by_row : goal.returns-else-by_row
 returns-else-by_row c =

@@ -5,7 +5,7 @@ use Rattle.messages.proofs.OverLaws.{Raised, written_none, written_length, raise
 use Rattle.messages.proofs.edge_message.raise_all.Given as goal
 
 abbrev pub invariant-loop-j : goal.invariant-loop-j
-invariant-loop-j l = Raised (λ j. to_z w64 l.amount) l.initial.line l.j l.line
+invariant-loop-j l = Raised (λ j. l.amount) l.initial.line l.j l.line
 
 abbrev pub decreases-loop-j : goal.decreases-loop-j
 decreases-loop-j l = length l.initial.line - l.j

@@ -6,7 +6,7 @@ use Rattle.messages.proofs.OverLaws.{Overwritten, written_none, written_next, wr
 use Rattle.messages.proofs.edge_message.turn_all.Given as goal
 
 abbrev pub invariant-loop-k : goal.invariant-loop-k
-invariant-loop-k l = Overwritten (λ j. turned_least (get_or l.initial.least j (pos 0)) (to_z w64 l.low) l.share) l.many l.initial.least l.k l.least
+invariant-loop-k l = Overwritten (λ j. turned_least (get_or l.initial.least j (pos 0)) l.low l.share) l.many l.initial.least l.k l.least
 
 abbrev pub decreases-loop-k : goal.decreases-loop-k
 decreases-loop-k l = l.many - l.k

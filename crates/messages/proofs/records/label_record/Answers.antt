@@ -43,24 +43,24 @@ pub offset_bounds-starts-u : goal.offset_bounds-starts-u
 offset_bounds-starts-u c = omega (arith, small c)
 
 pub bounds-starts-u : goal.bounds-starts-u
-bounds-starts-u c = small c
+bounds-starts-u c = small (goal.at.bounds-starts-u c).Then-legal_position
 
 pub given-p-requires : goal.given-p-requires
 given-p-requires c =
-    let p = (goal.at.given-p-requires c).After-legal_position in let q = start p in record { viewed = (q.pre.0.0, asked p); holders = q.pre.1.0; node_fits = q.pre.1.1 }
+    let p = (goal.at.given-p-requires c).Then-legal_position in let q = start p in record { viewed = (q.requires.viewed.0, asked p); holders = q.requires.holders; node_fits = q.requires.node_fits }
 
 pub overflow_add-at : goal.overflow_add-at
 overflow_add-at c =
-    let p = (goal.at.overflow_add-at c).After-legal_position in omega (arith, place_in (asked p) (start p).requires.1.1.0)
+    let p = (goal.at.overflow_add-at c).Then-legal_position in omega (arith, place_in (asked p) (start p).requires.node_fits.0)
 
 pub shift_label-requires : goal.shift_label-requires
 shift_label-requires c =
-    let p = (goal.at.shift_label-requires c).After-legal_position in let f = (start p).requires.1.1 in
+    let p = (goal.at.shift_label-requires c).Then-legal_position in let f = (start p).requires.node_fits in
     record { i_in_bounds = (place_in (asked p) f.0, place_in (asked p) f.1); within = f.0.range; within_2 = f.1.range; p_bound = rw (same c.given-p.result c.given-p.type_inv) c.given-p.ensures.1 }
 
 pub returns-then-legal_position : goal.returns-then-legal_position
 returns-then-legal_position c =
-    let p = (goal.at.returns-then-legal_position c).After-legal_position in let a = (start p).args in
+    let p = (goal.at.returns-then-legal_position c).Then-legal_position in let a = (start p).args in
     c.shift_label.ensures
     ∙ ap (label_moved a.view.limit a.nodes.now a.labels.now (get_or a.starts.now (r p).node 0 + (r p).index)) (same c.given-p.result c.given-p.type_inv ∙ c.given-p.ensures.0)
     ∙ ap (λ (at : ℕ). label_moved a.view.limit a.nodes.now a.labels.now (at + (r p).index) (label_given (I p) a.nodes.now a.labels.now a.turned (r p).node (at + (r p).index) (r p).share)) (begins p)

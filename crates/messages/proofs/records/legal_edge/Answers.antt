@@ -43,12 +43,12 @@ returns-then-e-view c =
 pub returns-else-e-view : goal.returns-else-e-view
 returns-else-e-view c =
     let o = (goal.at.returns-else-e-view c).Then-legal_share in let q = start o in
-    edge_none (I q) (r q).node (r q).index (r q).share (shared o) (inner (goal.at.returns-else-e-view c).Then-u-view) (omega (arith, c.if-e-view.false, q.pre.edges))
+    edge_none (I q) (r q).node (r q).index (r q).share (shared o) (inner (goal.at.returns-else-e-view c).Then-u-view) (omega (arith, c.if-e-view.false, q.requires.edges))
 
 pub returns-else-u-view : goal.returns-else-u-view
 returns-else-u-view c =
     let o = (goal.at.returns-else-u-view c).Then-legal_share in let q = start o in
-    edge_no_node (I q) (r q).node (r q).index (r q).share (shared o) (omega (arith, c.if-u-view.false, q.pre.nodes))
+    edge_no_node (I q) (r q).node (r q).index (r q).share (shared o) (omega (arith, c.if-u-view.false, q.requires.nodes))
 
 pub returns-else-legal_share : goal.returns-else-legal_share
 returns-else-legal_share c =

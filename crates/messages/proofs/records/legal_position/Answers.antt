@@ -60,18 +60,18 @@ pub offset_bounds-starts-u : goal.offset_bounds-starts-u
 offset_bounds-starts-u c = omega (arith, small c)
 
 pub bounds-starts-u : goal.bounds-starts-u
-bounds-starts-u c = small c
+bounds-starts-u c = small (goal.at.bounds-starts-u c).Then-step-degree_of
 
 pub overflow_add-starts : goal.overflow_add-starts
 overflow_add-starts c =
-    let p = (goal.at.overflow_add-starts c).After-way_told-1 in omega (arith, inside p, positions_few_lem (proper (here p).args.sheet.now (here p).requires.0.readable))
+    let p = (goal.at.overflow_add-starts c).Then-step-degree_of in omega (arith, inside p, positions_few_lem (proper (here p).args.sheet.now (here p).requires.0.readable))
 
 pub label_at-label-requires : goal.label_at-label-requires
-label_at-label-requires c = let p = (goal.at.label_at-label-requires c).After-way_told-1 in ((here p).requires.0, inside p)
+label_at-label-requires c = let p = (goal.at.label_at-label-requires c).Then-step-degree_of in ((here p).requires.0, inside p)
 
 pub returns-then-step-degree_of : goal.returns-then-step-degree_of
 returns-then-step-degree_of c =
-    let p = (goal.at.returns-then-step-degree_of c).After-way_told-1 in let q = here p in
+    let p = (goal.at.returns-then-step-degree_of c).Then-step-degree_of in let q = here p in
     c.exclusive.ensures ∙ ap exclusive (c.label_at-label.ensures.0 ∙ ap (λ (a : ℕ). (I q).label (a + (r q).index)) (begins p))
     ∙ position_some (I q) (r q).node (r q).index (r q).share (shared (goal.at.Then-u-view (past p)).Then-legal_share) (node (past p)) (position p)
 
@@ -83,7 +83,7 @@ returns-else-step-degree_of c =
 pub returns-else-u-view : goal.returns-else-u-view
 returns-else-u-view c =
     let o = (goal.at.returns-else-u-view c).Then-legal_share in let q = start o in
-    position_no_node (I q) (r q).node (r q).index (r q).share (shared o) (omega (arith, c.if-u-view.false, q.pre.0.nodes))
+    position_no_node (I q) (r q).node (r q).index (r q).share (shared o) (omega (arith, c.if-u-view.false, q.requires.0.nodes))
 
 pub returns-else-legal_share : goal.returns-else-legal_share
 returns-else-legal_share c =

@@ -38,11 +38,11 @@ slice_bounds-adopt-end c =
 pub adopt-requires : goal.adopt-requires
 adopt-requires c =
     let p = (goal.at.adopt-requires c).After-round_all-rounding in let q = start p in
-    let v = q.pre.0.seen.viewed in
-    record { seen = q.pre.0.seen; labelling = found_labelling (I p) (costs p) q.args.view.nodes v.nodes (nodes_few_lem v) c.round_all-rounding.result c.round_all-rounding.ensures c.if-rounding.false; incumbent_len = (q.pre.1.size ∙ sym v.nodes, q.pre.1.ok) }
+    let v = q.requires.round_asked.seen.viewed in
+    record { seen = q.requires.round_asked.seen; labelling = found_labelling (I p) (costs p) q.args.view.nodes v.nodes (nodes_few_lem v) c.round_all-rounding.result c.round_all-rounding.ensures c.if-rounding.false; incumbent_len = (q.requires.incumbent_fits.size ∙ sym v.nodes, q.requires.incumbent_fits.ok) }
 
 pub returns : goal.returns
 returns c =
     let p = (goal.at.returns c).After-round_all-rounding in let q = start p in
-    let v = q.pre.0.seen.viewed in
+    let v = q.requires.round_asked.seen.viewed in
     found_left (I p) (costs p) q.args.view.nodes v.nodes (nodes_few_lem v) c.round_all-rounding.result c.round_all-rounding.ensures c.if-rounding.false q.args.incumbent.now _ c.adopt.ensures

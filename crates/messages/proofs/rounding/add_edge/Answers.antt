@@ -27,7 +27,7 @@ module _ (q : Start) where
 -- the row, with all that it rests on read
 module _ (p : After-wide) where
   abbrev degree : After-degree_of-degree
-  degree = (goal.at.After-wide p).After-row-1
+  degree = (goal.at.After-wide p).After-degree_of-degree
 
   abbrev start : Start
   start = (goal.at.After-degree_of-degree degree).Start
@@ -70,7 +70,7 @@ pub offset_bounds-tables-e : goal.offset_bounds-tables-e
 offset_bounds-tables-e c = omega (arith, few (goal.at.offset_bounds-tables-e c).Start)
 
 pub bounds-tables-e : goal.bounds-tables-e
-bounds-tables-e c = few (goal.at.bounds-tables-e c).After-shared_slice_known-1
+bounds-tables-e c = few (goal.at.bounds-tables-e c).Start
 
 pub bounds-positions-low : goal.bounds-positions-low
 bounds-positions-low c = omega (arith, c.low_end-low.ensures.1, c.requires.viewed.0.nodes, nodes_few_lem c.requires.viewed.0)
@@ -95,7 +95,7 @@ add_cells-requires c =
     let p = (goal.at.add_cells-requires c).After-wide in let q = start p in
     let edges = q.args.edges.now in
     let z : from p + long p - from p ≡ long p = omega arith in
-    record { row_in_bounds = omega (arith, z, length_part edges (from p) (from p + long p - from p) (omega (arith, room p)), (degree p).degree_of-degree.ensures.1, q.pre.1.1.0); within = q.pre.1.1.1; within_2 = within_part cost_limit (from p) (from p + long p - from p) edges q.pre.0.2.range }
+    record { row_in_bounds = omega (arith, z, length_part edges (from p) (from p + long p - from p) (omega (arith, room p)), (degree p).degree_of-degree.ensures.1, q.requires.keys_len.0); within = q.requires.keys_len.1; within_2 = within_part cost_limit (from p) (from p + long p - from p) edges q.requires.viewed.2.range }
 
 pub returns : goal.returns
 returns c =

@@ -31,15 +31,15 @@ bounds-untaken-label c = c.label_at-label.ensures.1
 pub better_of-best-requires : goal.better_of-best-requires
 better_of-best-requires c =
     let a = c.args in
-    (omega (arith, c.loop-k.invariant.1, chosen_few (I (goal.at.better_of-best-requires c).After-shared_slice_known-1) a.at a.keys.now a.untaken.now c.loop-k.k (omega (arith, c.requires.1, c.loop-k.invariant.0))), omega (arith, c.requires.1, c.loop-k-test.true))
+    (omega (arith, c.loop-k.invariant.1, chosen_few (I (goal.at.better_of-best-requires c).Start) a.at a.keys.now a.untaken.now c.loop-k.k (omega (arith, c.requires.1, c.loop-k.invariant.0))), omega (arith, c.requires.1, c.loop-k-test.true))
 
 pub loop-k-preserved : goal.loop-k-preserved
 loop-k-preserved c =
-    let l = (goal.at.loop-k-preserved c).After-way_told-1 in let a = c.args in (
+    let l = (goal.at.loop-k-preserved c).After-label_at-label in let a = c.args in (
       omega arith,
       c.better_of-best.ensures
           ∙ ap₂ (λ (l b : ℕ). better (get_or a.untaken.now l false) (λ (i : ℕ). get_or a.keys.now i (pos 0)) b c.loop-k.k) c.label_at-label.ensures.0 c.loop-k.invariant.1
-          ∙ chosen_more (I (goal.at.loop-k-preserved c).After-shared_slice_known-1) a.at a.keys.now a.untaken.now c.loop-k.k (omega (arith, c.requires.1, c.loop-k-test.true)),
+          ∙ chosen_more (I (goal.at.loop-k-preserved c).Start) a.at a.keys.now a.untaken.now c.loop-k.k (omega (arith, c.requires.1, c.loop-k-test.true)),
     )
 
 pub returns : goal.returns

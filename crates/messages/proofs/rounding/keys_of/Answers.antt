@@ -17,10 +17,6 @@ use Rattle.messages.proofs.KeyLaws.{zeros_within, keys_over, keys_length, keys_s
 use Rattle.messages.proofs.rounding.keys_of.Goals as goal
 use Rattle.messages.proofs.rounding.keys_of.Goals.{After-degree_of, After-number-e, At-loop-at, In-loop-at, Start}
 
--- after n edges of the node's row of the index
-abbrev Keyed : List ℕ → List ℤ → List ℤ → List ℕ → ℕ → List ℕ → ℕ → List ℤ → Type 0
-Keyed sheet nodes edges x u lowers n keys = keys ≡ keys_over (instance_of sheet) nodes edges x u (map (λ j. get_or lowers j 0) (range (65 * u + 1) n))
-
 -- the node at entry
 module _ (q : Start) where
   abbrev s : List ℕ
@@ -66,7 +62,7 @@ module _ (q : Start) where
 -- its row, where the degree was read
 module _ (p : After-degree_of) where
   abbrev entry : Start
-  entry = (goal.at.After-degree_of p).After-shared_slice_known-1
+  entry = (goal.at.After-degree_of p).Start
 
   abbrev begin : ℕ
   begin = get_or entry.args.starts.now (u entry) 0
@@ -82,7 +78,7 @@ module _ (p : After-degree_of) where
 -- in each turn
 module _ (t : At-loop-at) where
   abbrev start : Start
-  start = (goal.at.At-loop-at t).After-way_told-1
+  start = (goal.at.At-loop-at t).Start
 
   abbrev n : ℕ
   n = t.loop-at.at - (65 * u start + 1)
@@ -102,7 +98,7 @@ module _ (t : At-loop-at) where
 -- an edge of the row
 module _ (p : After-number-e) where
   abbrev head : At-loop-at
-  head = (goal.at.After-number-e p).In-loop-at
+  head = (goal.at.After-number-e p).At-loop-at
 
   abbrev q : Start
   q = start head
@@ -126,11 +122,10 @@ pub offset_bounds-starts-u : goal.offset_bounds-starts-u
 offset_bounds-starts-u c = omega (arith, low (goal.at.offset_bounds-starts-u c).Start)
 
 pub bounds-starts-u : goal.bounds-starts-u
-bounds-starts-u c = low (goal.at.bounds-starts-u c).After-shared_slice_known-1
+bounds-starts-u c = low (goal.at.bounds-starts-u c).Start
 
 pub degree_of-requires : goal.degree_of-requires
-degree_of-requires c =
-    (c.requires.round_asked.seen.viewed.readable, node (goal.at.degree_of-requires c).After-shared_slice_known-1)
+degree_of-requires c = (c.requires.round_asked.seen.viewed.readable, node (goal.at.degree_of-requires c).Start)
 
 pub overflow_add-end : goal.overflow_add-end
 overflow_add-end c = omega (arith, room c, short (entry c))
@@ -145,30 +140,30 @@ slice_bounds-add_cells-end-2 c = room (goal.at.slice_bounds-add_cells-end-2 c).A
 pub add_cells-requires : goal.add_cells-requires
 add_cells-requires c =
     let p = (goal.at.add_cells-requires c).After-degree_of in let q = entry p in
-    record { row_in_bounds = rw (read p, length_part (nodes q) (first (I q) (u q)) ((I q).degree (u q)) (inside q)) ((proper (s q) q.pre.0.seen.viewed.readable).few (u q) (node q)); within = λ i. zeros_within i; within_2 = within_part cost_limit (begin p) (begin p + c.degree_of.result - begin p) (nodes q) q.pre.0.node_costs.range }
+    record { row_in_bounds = rw (read p, length_part (nodes q) (first (I q) (u q)) ((I q).degree (u q)) (inside q)) ((proper (s q) q.requires.round_asked.seen.viewed.readable).few (u q) (node q)); within = λ i. zeros_within i; within_2 = within_part cost_limit (begin p) (begin p + c.degree_of.result - begin p) (nodes q) q.requires.round_asked.node_costs.range }
 
 pub overflow_mul-row : goal.overflow_mul-row
-overflow_mul-row c = omega (arith, low (goal.at.overflow_mul-row c).After-shared_slice_known-1)
+overflow_mul-row c = omega (arith, low (goal.at.overflow_mul-row c).Start)
 
 pub overflow_add-past : goal.overflow_add-past
-overflow_add-past c = omega (arith, low (goal.at.overflow_add-past c).After-shared_slice_known-1)
+overflow_add-past c = omega (arith, low (goal.at.overflow_add-past c).Start)
 
 pub offset_bounds-lowers-row : goal.offset_bounds-lowers-row
-offset_bounds-lowers-row c = omega (arith, low (goal.at.offset_bounds-lowers-row c).After-shared_slice_known-1)
+offset_bounds-lowers-row c = omega (arith, low (goal.at.offset_bounds-lowers-row c).Start)
 
 pub bounds-lowers-row : goal.bounds-lowers-row
-bounds-lowers-row c = omega (arith, low (goal.at.bounds-lowers-row c).After-way_told-1)
+bounds-lowers-row c = omega (arith, low (goal.at.bounds-lowers-row c).Start)
 
 pub overflow_add-past-2 : goal.overflow_add-past-2
-overflow_add-past-2 c = omega (arith, low (goal.at.overflow_add-past-2 c).After-way_told-1, c.number.ensures.1)
+overflow_add-past-2 c = omega (arith, low (goal.at.overflow_add-past-2 c).Start, c.number.ensures.1)
 
 pub overflow_add-at : goal.overflow_add-at
-overflow_add-at c = omega (arith, low (goal.at.overflow_add-at c).After-way_told-1)
+overflow_add-at c = omega (arith, low (goal.at.overflow_add-at c).Start)
 
 pub loop-at-init : goal.loop-at-init
 unfolding range
 loop-at-init c =
-    let p = (goal.at.loop-at-init c).After-keys-1 in let q = entry p in
+    let p = (goal.at.loop-at-init c).After-degree_of in let q = entry p in
     let z : 65 * u q + 1 - (65 * u q + 1) ≡ 0 = omega arith in (
       omega arith,
       omega arith,
@@ -183,15 +178,15 @@ pub offset_bounds-lowers-at : goal.offset_bounds-lowers-at
 offset_bounds-lowers-at c = omega (arith, reach c)
 
 pub bounds-lowers-at : goal.bounds-lowers-at
-bounds-lowers-at c = reach c
+bounds-lowers-at c = reach (goal.at.bounds-lowers-at c).In-loop-at
 
 pub slice_bounds-add_edge-end : goal.slice_bounds-add_edge-end
-slice_bounds-add_edge-end c = sym (long (goal.at.slice_bounds-add_edge-end c).In-loop-at)
+slice_bounds-add_edge-end c = sym (long (goal.at.slice_bounds-add_edge-end c).At-loop-at)
 
 pub add_edge-requires : goal.add_edge-requires
 add_edge-requires c =
     let p = (goal.at.add_edge-requires c).After-number-e in let r = q p in
-    record { viewed = (r.pre.0.seen.viewed, r.pre.0.seen.tabled, r.pre.0.edge_costs); placed = (r.pre.1.1, exists p, ends p); keys_len = (long (head p), small (head p)) }
+    record { viewed = (r.requires.round_asked.seen.viewed, r.requires.round_asked.seen.tabled, r.requires.round_asked.edge_costs); placed = (r.requires.u_lt_nodes.1, exists p, ends p); keys_len = (long (head p), small (head p)) }
 
 pub overflow_add-at-in-loop-at : goal.overflow_add-at-in-loop-at
 overflow_add-at-in-loop-at c =
@@ -204,17 +199,17 @@ pub loop-at-preserved : goal.loop-at-preserved
 loop-at-preserved c =
     let p = (goal.at.loop-at-preserved c).After-number-e in let h = head p in
     let r = q p in
-    let z : n h + 1 ≡ h.loop.at + 1 - (65 * u r + 1) = omega (arith, h.loop.inv.0) in (
-      omega (arith, h.loop.inv.0),
-      omega (arith, more p, h.loop.inv.0),
-      c.add_edge.ensures ∙ ap (λ (k : List ℤ). added k (edge_row (I r) (edges r) (x r) (e p))) h.loop.inv.2
-          ∙ keys_next (I r) (nodes r) (edges r) (x r) (u r) (sofar h) (e p) (ends p) (row_room r.pre.0.seen.viewed r.pre.0.edge_costs (x r) r.pre.1.1 (exists p) (ends p))
-          ∙ ap (keys_over (I r) (nodes r) (edges r) (x r) (u r)) (ap (λ (d : ℕ). sofar h ++ d ∷ []) (edge p) ∙ sym (things_more r.pre.0.indexed (u r) (low r) (n h)) ∙ ap (things r.pre.0.indexed (u r) (low r)) z),
+    let z : n h + 1 ≡ h.loop-at.at + 1 - (65 * u r + 1) = omega (arith, h.loop-at.invariant.0) in (
+      omega (arith, h.loop-at.invariant.0),
+      omega (arith, more p, h.loop-at.invariant.0),
+      c.add_edge.ensures ∙ ap (λ (k : List ℤ). added k (edge_row (I r) (edges r) (x r) (e p))) h.loop-at.invariant.2
+          ∙ keys_next (I r) (nodes r) (edges r) (x r) (u r) (sofar h) (e p) (ends p) (row_room r.requires.round_asked.seen.viewed r.requires.round_asked.edge_costs (x r) r.requires.u_lt_nodes.1 (exists p) (ends p))
+          ∙ ap (keys_over (I r) (nodes r) (edges r) (x r) (u r)) (ap (λ (d : ℕ). sofar h ++ d ∷ []) (edge p) ∙ sym (things_more r.requires.round_asked.indexed (u r) (low r) (n h)) ∙ ap (things r.requires.round_asked.indexed (u r) (low r)) z),
     )
 
 pub returns : goal.returns
 returns c =
     let h = (goal.at.returns c).At-loop-at in let r = start h in
     let z : n h ≡ many (lowers r) (u r) = omega (arith, c.loop-at.invariant.0, c.loop-at.invariant.1, c.loop-at-test.false, c.number.ensures.0) in
-    c.loop-at.invariant.2 ∙ ap (keys_over (I r) (nodes r) (edges r) (x r) (u r)) (ap (things r.pre.0.indexed (u r) (low r)) z ∙ r.pre.0.indexed.rows (u r) (low r))
+    c.loop-at.invariant.2 ∙ ap (keys_over (I r) (nodes r) (edges r) (x r) (u r)) (ap (things r.requires.round_asked.indexed (u r) (low r)) z ∙ r.requires.round_asked.indexed.rows (u r) (low r))
     ∙ keys_all (I r) (nodes r) (edges r) (x r) (u r)

@@ -16,6 +16,10 @@ use Rattle.messages.proofs.SheetLaws.{proper, nodes_few_lem, start_is}
 use Rattle.messages.proofs.KeyLaws.{zeros_within, keys_over, keys_length, keys_small, keys_first, keys_next, keys_all, things, things_more, thing_keyed, row_room}
 use Rattle.messages.proofs.rounding.keys_of.Given as goal
 
+-- after n edges of the node's row of the index
+abbrev pub Keyed : List ℕ → List ℤ → List ℤ → List ℕ → ℕ → List ℕ → ℕ → List ℤ → Type 0
+Keyed sheet nodes edges x u lowers n keys = keys ≡ keys_over (instance_of sheet) nodes edges x u (map (λ j. get_or lowers j 0) (range (65 * u + 1) n))
+
 abbrev pub invariant-loop-at : goal.invariant-loop-at
 invariant-loop-at l =     (65 * l.u + 1 ≤ l.at) × (l.at ≤ 65 * l.u + 1 + many l.lowers l.u) × Keyed l.sheet l.nodes l.edges l.positions l.u l.lowers (l.at - (65 * l.u + 1)) l.keys
 

@@ -40,7 +40,7 @@ module _ (t : In-loop-u) where
 -- where the choice is made: the choice of the rules, as a number
 module _ (p : After-choose-k) where
   abbrev turn : In-loop-u
-  turn = (goal.at.After-choose-k p).After-x-1
+  turn = (goal.at.After-choose-k p).In-loop-u
 
   abbrev k : ℕ
   k = p.choose-k.result
@@ -52,7 +52,7 @@ module _ (p : After-choose-k) where
   picked =
       let q = start turn in
       p.choose-k.ensures
-      ∙ choice_read q.pre.seen.viewed q.args.nodes.now q.args.edges.now turn.loop-u.invariant turn.loop-u-test.true (begins turn) p.keys_of-keys.ensures p.degree_of.ensures.0
+      ∙ choice_read q.requires.seen.viewed q.args.nodes.now q.args.edges.now turn.loop-u.invariant turn.loop-u-test.true (begins turn) p.keys_of-keys.ensures p.degree_of.ensures.0
 
   module _ (q : k ≡ 16 → ⊥) where
     position : k < (I turn).degree (u turn)
@@ -72,20 +72,20 @@ pub offset_bounds-starts-u : goal.offset_bounds-starts-u
 offset_bounds-starts-u c = omega (arith, few (goal.at.offset_bounds-starts-u c).In-loop-u)
 
 pub bounds-starts-u : goal.bounds-starts-u
-bounds-starts-u c = few (goal.at.bounds-starts-u c).After-x-1
+bounds-starts-u c = few (goal.at.bounds-starts-u c).In-loop-u
 
 pub degree_of-requires : goal.degree_of-requires
 degree_of-requires c =
-    let t = (goal.at.degree_of-requires c).After-x-1 in ((start t).requires.seen.viewed.readable, node t)
+    let t = (goal.at.degree_of-requires c).In-loop-u in ((start t).requires.seen.viewed.readable, node t)
 
 pub choose-k-requires : goal.choose-k-requires
 choose-k-requires c =
-    let t = (goal.at.choose-k-requires c).After-x-1 in ((start t).requires.seen.viewed, c.degree_of.ensures.1, omega (arith, c.degree_of.ensures.0, begins t, row t))
+    let t = (goal.at.choose-k-requires c).In-loop-u in ((start t).requires.seen.viewed, c.degree_of.ensures.1, omega (arith, c.degree_of.ensures.0, begins t, row t))
 
 pub returns-then-k-eq16 : goal.returns-then-k-eq16
 returns-then-k-eq16 c =
     let p = (goal.at.returns-then-k-eq16 c).After-choose-k in let q = start (turn p) in
-    c.stuck.ensures ∙ round_stop q.pre.seen.viewed q.args.nodes.now q.args.edges.now (turn p).loop-u.invariant (turn p).loop-u-test.true (picked p) c.if-k-eq16.true
+    c.stuck.ensures ∙ round_stop q.requires.seen.viewed q.args.nodes.now q.args.edges.now (turn p).loop-u.invariant (turn p).loop-u-test.true (picked p) c.if-k-eq16.true
 
 pub overflow_cast-x : goal.overflow_cast-x
 overflow_cast-x c =
@@ -101,7 +101,7 @@ overflow_add-at c =
 
 pub label_at-label-requires : goal.label_at-label-requires
 label_at-label-requires c =
-    let p = (goal.at.label_at-label-requires c).After-choose-k in ((start (turn p)).pre.seen.viewed, inside p c.if-k-eq16.false)
+    let p = (goal.at.label_at-label-requires c).After-choose-k in ((start (turn p)).requires.seen.viewed, inside p c.if-k-eq16.false)
 
 pub overflow_add-u : goal.overflow_add-u
 overflow_add-u c = omega (arith, few (turn (goal.at.overflow_add-u c).After-choose-k))
@@ -112,7 +112,7 @@ loop-u-smaller c = omega (arith, (turn (goal.at.loop-u-smaller c).After-choose-k
 pub loop-u-preserved : goal.loop-u-preserved
 loop-u-preserved c =
     let p = (goal.at.loop-u-preserved c).After-choose-k in let q = start (turn p) in
-    round_turn q.pre.seen.viewed q.args.nodes.now q.args.edges.now (turn p).loop-u.invariant (turn p).loop-u-test.true (picked p) c.if-k-eq16.false (c.label_at-label.ensures.0 ∙ ap (λ (a : ℕ). (I (turn p)).label (a + k p)) (begins (turn p))) c.exclusive.ensures
+    round_turn q.requires.seen.viewed q.args.nodes.now q.args.edges.now (turn p).loop-u.invariant (turn p).loop-u-test.true (picked p) c.if-k-eq16.false (c.label_at-label.ensures.0 ∙ ap (λ (a : ℕ). (I (turn p)).label (a + k p)) (begins (turn p))) c.exclusive.ensures
 
 pub returns : goal.returns
 returns c =

@@ -15,15 +15,15 @@ label_record-requires c =
     let (n, l, e) = c.requires.node_fits in record { viewed = (c.requires.seen.viewed, c.requires.seen.begun); holders = c.requires.holders; node_fits = (n, l) }
 
 pub returns-then-step-lt3 : goal.returns-then-step-lt3
-returns-then-step-lt3 c =
+returns-then-step-lt3 c x g =
     let a = c.args in
     let r = a.step in
     sym (edge_turn g r.kind r.node r.index r.share c.requires.le_kind.0 c.if-step-lt3.true
     ∙ ap (edge_settled (lent a.nodes.now a.labels.now a.edges.now x)) (sym c.edge_record.ensures))
 
 pub returns-else-step-lt3 : goal.returns-else-step-lt3
-returns-else-step-lt3 c =
+returns-else-step-lt3 c x g =
     let a = c.args in
     let r = a.step in
     sym (label_turn g r.kind r.node r.index r.share c.if-step-lt3.false c.requires.le_kind.1
-    ∙ ap (λ ((goal.at.returns-else-step-lt3 c).After-label_record : Moved). settle (lent c.nodes c.labels a.edges.now x) 0 c.refusal) (sym c.label_record.ensures))
+    ∙ ap (λ ((goal.at.returns-else-step-lt3 c).After-label_record : Moved). settle (lent c.nodes c.labels-1 a.edges.now x) 0 c.refusal) (sym c.label_record.ensures))

@@ -22,7 +22,7 @@ clash-skip-requires c = (c.requires.ends.rises, c.mask_of-mask.ensures)
 
 pub loop-k-preserved : goal.loop-k-preserved
 loop-k-preserved c =
-    let d = (goal.at.loop-k-preserved c).After-clash-skip in let e = (q d).requires.0 in
+    let d = (goal.at.loop-k-preserved c).After-clash-skip in let e = (q d).requires.ends in
     let h = c.loop-k-test.true in
     let z = c.clash-skip.ensures in
     ⊎_elim (λ a. rw (a.3, a.4) (passing_skip e (p d).loop-k.invariant h (room d) z a.0.taken (answer a.2.ok a.2.ensures)))

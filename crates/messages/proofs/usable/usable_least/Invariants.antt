@@ -6,7 +6,7 @@ use Rattle.messages.proofs.EdgeLaws.{row_end}
 use Rattle.messages.proofs.usable.usable_least.Given as goal
 
 abbrev pub invariant-loop-k : goal.invariant-loop-k
-invariant-loop-k l = Passing l.low l.high l.cells (to_z w64 l.best) l.from l.row l.k
+invariant-loop-k l = Passing l.low l.high l.cells l.best l.from l.row l.k
 
 abbrev pub decreases-loop-k : goal.decreases-loop-k
 decreases-loop-k l = length l.low - l.k

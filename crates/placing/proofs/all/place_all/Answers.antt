@@ -22,7 +22,7 @@ loop-u-preserved-then-vanishes c = filling_own c.requires.0 c.loop-u.invariant c
 pub chain-r-requires : goal.chain-r-requires
 chain-r-requires c =
     let v = c.loop-u.invariant in
-    record { linked = v.linked; node = few (goal.at.chain-r-requires c).After-vanishes-1; unplaced = filling_unplaced c.requires.0 v c.loop-u-test.true; labels = λ l e. (e, bit_zero l) }
+    record { linked = v.linked; node = few (goal.at.chain-r-requires c).In-loop-u; unplaced = filling_unplaced c.requires.0 v c.loop-u-test.true; labels = λ l e. (e, bit_zero l) }
 
 pub loop-u-preserved : goal.loop-u-preserved
 loop-u-preserved c =
@@ -46,16 +46,16 @@ pub overflow_add-next : goal.overflow_add-next
 overflow_add-next c = omega (arith, few c)
 
 pub bounds-own-u : goal.bounds-own-u
-bounds-own-u c = few c
+bounds-own-u c = few (goal.at.bounds-own-u c).In-loop-u
 
 pub loop-u-smaller-then-vanishes : goal.loop-u-smaller-then-vanishes
 loop-u-smaller-then-vanishes c = omega (arith, c.loop-u-test.true)
 
 pub offset_bounds-sets-u : goal.offset_bounds-sets-u
-offset_bounds-sets-u c = omega (arith, few (goal.at.offset_bounds-sets-u c).After-way_told-1)
+offset_bounds-sets-u c = omega (arith, few (goal.at.offset_bounds-sets-u c).In-loop-u)
 
 pub bounds-sets-u : goal.bounds-sets-u
-bounds-sets-u c = few (goal.at.bounds-sets-u c).After-vanishes-1
+bounds-sets-u c = few (goal.at.bounds-sets-u c).In-loop-u
 
 pub loop-u-smaller : goal.loop-u-smaller
 loop-u-smaller c = omega (arith, c.loop-u-test.true)

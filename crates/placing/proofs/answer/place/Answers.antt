@@ -33,10 +33,10 @@ module _ (p : Else-layout-ne-NONE) where
   out = start.args.out.now
 
   unrefused : refusal_of s ≡ 0
-  unrefused = sym (refusal_is s p.read-layout.ensures) ∙ p.if-layout-ne-NONE.left
+  unrefused = sym (refusal_is s p.read-layout.ensures) ∙ p.if-layout-ne-NONE.false
 
   laid : LaidOut s p.read-layout.result
-  laid = laid_out s p.read-layout.ensures p.if-layout-ne-NONE.left
+  laid = laid_out s p.read-layout.ensures p.if-layout-ne-NONE.false
 
 -- past the second: the lent bytes are as many as nodes
 module _ (k : Else-out-n) where

@@ -14,10 +14,8 @@ use Rattle.integers.proofs.Filling.{Filling, fill_none, fill_more, fill_all}
 use Rattle.placing.specs.Words.{entry, caught}
 use Rattle.placing.proofs.Laying.{byte_is}
 use Rattle.placing.proofs.answer.write_members.Goals as goal
+use Rattle.placing.proofs.answer.write_members.Invariants.{members}
 use Rattle.placing.proofs.answer.write_members.Goals.{In-loop-node, Start}
-
-abbrev members : ℕ → ℕ → List ℕ → ℕ → ℕ
-members root seen taken u = cond (caught root seen taken u) 1 0
 
 member_is : (root seen : ℕ) (taken : List ℕ) (u : ℕ) {r : Bool} → r ≡ bit seen (entry taken u) → bool_byte (eqb u root || (ltb u root && r)) ≡ members root seen taken u
 unfolding caught
@@ -38,20 +36,20 @@ pub loop-node-init : goal.loop-node-init
 loop-node-init c = let q = c.args in fill_none (members q.root q.seen q.taken.now) _
 
 pub bounds-taken-node : goal.bounds-taken-node
-bounds-taken-node c = few c
+bounds-taken-node c = few (goal.at.bounds-taken-node c).In-loop-node
 
 pub bounds-out-node : goal.bounds-out-node
 bounds-out-node c = c.loop-node-test.true
 
 pub overflow_add-node : goal.overflow_add-node
-overflow_add-node c = omega (arith, few (goal.at.overflow_add-node c).After-way_told-1)
+overflow_add-node c = omega (arith, few (goal.at.overflow_add-node c).In-loop-node)
 
 pub loop-node-smaller : goal.loop-node-smaller
-loop-node-smaller c = omega (arith, inside (goal.at.loop-node-smaller c).After-way_told-1)
+loop-node-smaller c = omega (arith, inside (goal.at.loop-node-smaller c).In-loop-node)
 
 pub loop-node-preserved : goal.loop-node-preserved
 loop-node-preserved c =
-    let t = (goal.at.loop-node-preserved c).After-way_told-1 in let l = c.loop-node in
+    let t = (goal.at.loop-node-preserved c).In-loop-node in let l = c.loop-node in
     let q = (start t).args in
     let f = members q.root q.seen q.taken.now in
     subst (λ b. Filling f q.out.now (set l.out l.node b) (l.node + 1)) (sym (member_is q.root q.seen q.taken.now l.node c.has_label.ensures)) (fill_more f 0 l.invariant (inside t))

@@ -15,6 +15,9 @@ use Rattle.placing.specs.Words.{entry, caught}
 use Rattle.placing.proofs.Laying.{byte_is}
 use Rattle.placing.proofs.answer.write_members.Given as goal
 
+abbrev pub members : ℕ → ℕ → List ℕ → ℕ → ℕ
+members root seen taken u = cond (caught root seen taken u) 1 0
+
 abbrev pub invariant-loop-node : goal.invariant-loop-node
 invariant-loop-node l = Filling (members l.root l.seen l.taken) l.initial.out l.out l.node
 

@@ -8,10 +8,8 @@ use lib.ListN.{length, set}
 use Rattle.integers.proofs.Filling.{Filling, fill_none, fill_more, fill_all}
 use Rattle.placing.specs.Words.{entry, rank}
 use Rattle.placing.proofs.answer.write_positions.Goals as goal
+use Rattle.placing.proofs.answer.write_positions.Invariants.{ranks}
 use Rattle.placing.proofs.answer.write_positions.Goals.{In-loop-u, Start}
-
-abbrev ranks : List ℕ → List ℕ → ℕ → ℕ
-ranks sets taken u = rank (entry sets u) (entry taken u)
 
 -- a node of the turn
 module _ (t : In-loop-u) where
@@ -34,27 +32,27 @@ pub offset_bounds-sets-u : goal.offset_bounds-sets-u
 offset_bounds-sets-u c = omega (arith, few c)
 
 pub bounds-sets-u : goal.bounds-sets-u
-bounds-sets-u c = few c
+bounds-sets-u c = few (goal.at.bounds-sets-u c).In-loop-u
 
 pub bounds-taken-u : goal.bounds-taken-u
-bounds-taken-u c = few (goal.at.bounds-taken-u c).After-rank_of-arg-1
+bounds-taken-u c = few (goal.at.bounds-taken-u c).In-loop-u
 
 pub rank_of-requires : goal.rank_of-requires
 rank_of-requires c =
-    let t = (goal.at.rank_of-requires c).After-rank_of-arg-1 in omega (arith, (start t).requires.1 (u t) (inside t))
+    let t = (goal.at.rank_of-requires c).In-loop-u in omega (arith, (start t).requires.1 (u t) (inside t))
 
 pub bounds-out-u : goal.bounds-out-u
 bounds-out-u c = c.loop-u-test.true
 
 pub overflow_add-u : goal.overflow_add-u
-overflow_add-u c = omega (arith, few (goal.at.overflow_add-u c).After-rank_of-arg-1)
+overflow_add-u c = omega (arith, few (goal.at.overflow_add-u c).In-loop-u)
 
 pub loop-u-smaller : goal.loop-u-smaller
-loop-u-smaller c = omega (arith, inside (goal.at.loop-u-smaller c).After-rank_of-arg-1)
+loop-u-smaller c = omega (arith, inside (goal.at.loop-u-smaller c).In-loop-u)
 
 pub loop-u-preserved : goal.loop-u-preserved
 loop-u-preserved c =
-    let t = (goal.at.loop-u-preserved c).After-rank_of-arg-1 in let q = (start t).args in
+    let t = (goal.at.loop-u-preserved c).In-loop-u in let q = (start t).args in
     let f = ranks q.sets.now q.taken.now in
     subst (λ r. Filling f q.out.now (set c.loop-u.out (u t) r) (u t + 1)) (sym c.rank_of.ensures) (fill_more f 0 c.loop-u.invariant (inside t))
 

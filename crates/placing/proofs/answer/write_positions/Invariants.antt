@@ -9,6 +9,9 @@ use Rattle.integers.proofs.Filling.{Filling, fill_none, fill_more, fill_all}
 use Rattle.placing.specs.Words.{entry, rank}
 use Rattle.placing.proofs.answer.write_positions.Given as goal
 
+abbrev pub ranks : List ℕ → List ℕ → ℕ → ℕ
+ranks sets taken u = rank (entry sets u) (entry taken u)
+
 abbrev pub invariant-loop-u : goal.invariant-loop-u
 invariant-loop-u l = Filling (ranks l.sets l.taken) l.initial.out l.out l.u
 

@@ -22,7 +22,7 @@ use Rattle.placing.proofs.lowering.lower.Goals.{After-chain-r, After-lowest-l, A
 -- nothing has changed
 module _ (t : At-loop-rest) where
   abbrev start : Start
-  start = (goal.at.At-loop-rest t).After-label-1
+  start = (goal.at.At-loop-rest t).Start
 
   abbrev vacant : ℕ
   vacant = t.with_label-vacant.result
@@ -54,7 +54,7 @@ module _ (t : After-lowest-l) where
 -- what the chain leaves, said of the tables as they were
 module _ (c : After-chain-r) where
   abbrev turn : After-lowest-l
-  turn = (goal.at.After-chain-r c).Else-l-label
+  turn = (goal.at.After-chain-r c).After-lowest-l
 
   abbrev s : Start
   s = start (head turn)
@@ -76,14 +76,14 @@ returns-then-l-label c =
 
 pub chain-r-requires : goal.chain-r-requires
 chain-r-requires c =
-    let t = (goal.at.chain-r-requires c).Else-l-label in let s = start (head t) in
+    let t = (goal.at.chain-r-requires c).After-lowest-l in let s = start (head t) in
     let (a, b, d, v) = (head t).loop-rest.invariant in
     let e = c.bit_of-start.ensures in
     record {
       linked = transport (λ j. Linked s.args.sets.now (set (sym a j) s.args.u 255) (sym b j) (sym d j) (vacant (head t))) v.linked;
-      node = s.pre.1;
-      unplaced = subst (λ x. 64 ≤ entry (set x s.args.u 255) s.args.u) (sym a) (trying_unplaced s.pre.0 s.pre.1 v);
-      labels = λ l z. let y = bit_only c.lowest-l.result l (ap (λ (w : ℕ). bit w l) (sym e) ∙ z) in trying_label s.pre.0 s.pre.1 v l (ap (bit (head t).loop-rest.rest) y ∙ has_it t);
+      node = s.requires.1;
+      unplaced = subst (λ x. 64 ≤ entry (set x s.args.u 255) s.args.u) (sym a) (trying_unplaced s.requires.0 s.requires.1 v);
+      labels = λ l z. let y = bit_only c.lowest-l.result l (ap (λ (w : ℕ). bit w l) (sym e) ∙ z) in trying_label s.requires.0 s.requires.1 v l (ap (bit (head t).loop-rest.rest) y ∙ has_it t);
     }
 
 pub returns-then-r : goal.returns-then-r
@@ -91,20 +91,20 @@ returns-then-r c =
     let t = turn (goal.at.returns-then-r c).After-chain-r in
     let s = start (head t) in
     let (k, r, y) = (chained (goal.at.returns-then-r c).After-chain-r).yes c.if-r.true in
-    record { linked = k; by_index = λ n own v b. lowest_moves s.pre.0 s.pre.1 (head t).loop-rest.invariant.3 v b (small t) (least t) (bit_only t.lowest.result _ r) y }
+    record { linked = k; by_index = λ n own v b. lowest_moves s.requires.0 s.requires.1 (head t).loop-rest.invariant.3 v b (small t) (least t) (bit_only t.lowest-l.result _ r) y }
 
 pub loop-rest-smaller : goal.loop-rest-smaller
 loop-rest-smaller c =
-    let t = turn (goal.at.loop-rest-smaller c).Else-r in
+    let t = turn (goal.at.loop-rest-smaller c).After-chain-r in
     let s = start (head t) in
-    omega (arith, trying_less s.pre.0 s.pre.1 (head t).loop-rest.invariant.3 t.lowest.ensures t.before.loop-test.taken ((chained (goal.at.loop-rest-smaller c).Else-r).no c.if-r.false).3, (low t).0)
+    omega (arith, trying_less s.requires.0 s.requires.1 (head t).loop-rest.invariant.3 t.lowest-l.ensures t.loop-rest-test.true ((chained (goal.at.loop-rest-smaller c).After-chain-r).no c.if-r.false).3, (low t).0)
 
 pub loop-rest-preserved : goal.loop-rest-preserved
 loop-rest-preserved c =
-    let t = turn (goal.at.loop-rest-preserved c).Else-r in
+    let t = turn (goal.at.loop-rest-preserved c).After-chain-r in
     let s = start (head t) in
-    let (a, b, d, e) = (chained (goal.at.loop-rest-preserved c).Else-r).no c.if-r.false in
-    (ap (λ (x : List ℕ). set x s.args.u (entry s.args.taken.now s.args.u)) a ∙ set_back s.args.taken.now s.args.u 255, b, d, trying_more s.pre.0 s.pre.1 (head t).loop-rest.invariant.3 e)
+    let (a, b, d, e) = (chained (goal.at.loop-rest-preserved c).After-chain-r).no c.if-r.false in
+    (ap (λ (x : List ℕ). set x s.args.u (entry s.args.taken.now s.args.u)) a ∙ set_back s.args.taken.now s.args.u 255, b, d, trying_more s.requires.0 s.requires.1 (head t).loop-rest.invariant.3 e)
 
 pub returns : goal.returns
 returns c =
@@ -129,7 +129,7 @@ pub bit_of-start-requires : goal.bit_of-start-requires
 bit_of-start-requires c = small (goal.at.bit_of-start-requires c).After-lowest-l
 
 pub bounds-taken-u-in-loop-rest : goal.bounds-taken-u-in-loop-rest
-bounds-taken-u-in-loop-rest c = (start (head (goal.at.bounds-taken-u-in-loop-rest c).Else-l-label)).requires.1
+bounds-taken-u-in-loop-rest c = (start (head (goal.at.bounds-taken-u-in-loop-rest c).After-lowest-l)).requires.1
 
 pub bounds-taken-u-in-loop-rest-2 : goal.bounds-taken-u-in-loop-rest-2
-bounds-taken-u-in-loop-rest-2 c = (start (head (turn (goal.at.bounds-taken-u-in-loop-rest-2 c).Else-r))).pre.1
+bounds-taken-u-in-loop-rest-2 c = (start (head (turn (goal.at.bounds-taken-u-in-loop-rest-2 c).After-chain-r))).requires.1

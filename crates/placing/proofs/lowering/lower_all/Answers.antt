@@ -22,16 +22,16 @@ loop-u-preserved c =
     (c.lower-left.ensures.linked, λ own s. let v = c.loop-u.invariant.1 own s in lowered_more v c.loop-u-test.true (c.lower-left.ensures.by_index c.args.n own v c.loop-u-test.true) c.with_label-closed.ensures)
 
 pub returns : goal.returns
-returns c = lowered_done c.loop-u.invariant.0 (c.loop-u.invariant.1 own s) (omega (arith, c.loop-u-test.false))
+returns c own s = lowered_done c.loop-u.invariant.0 (c.loop-u.invariant.1 own s) (omega (arith, c.loop-u-test.false))
 
 pub lower-left-requires : goal.lower-left-requires
 lower-left-requires c = (c.loop-u.invariant.0, few (goal.at.lower-left-requires c).In-loop-u)
 
 pub bounds-taken-u : goal.bounds-taken-u
-bounds-taken-u c = few (goal.at.bounds-taken-u c).After-lower-arg-1
+bounds-taken-u c = few (goal.at.bounds-taken-u c).In-loop-u
 
 pub overflow_add-u : goal.overflow_add-u
-overflow_add-u c = omega (arith, few (goal.at.overflow_add-u c).After-lower-arg-1)
+overflow_add-u c = omega (arith, few (goal.at.overflow_add-u c).In-loop-u)
 
 pub loop-u-smaller : goal.loop-u-smaller
 loop-u-smaller c = omega (arith, c.loop-u-test.true)

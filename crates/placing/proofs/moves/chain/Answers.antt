@@ -13,7 +13,7 @@ module _ (c : After-lowest-l) where
   began = (goal.at.After-lowest-l c).Start
 
   small : c.lowest-l.result < 64
-  small = once_small began.requires began.fits.start.fits c.if-met-ne0.true c.lowest-l.ensures
+  small = once_small began.requires began.ranges.start.fits c.if-met-ne0.true c.lowest-l.ensures
 
 pub returns-then-met-ne0 : goal.returns-then-met-ne0
 returns-then-met-ne0 c =
@@ -21,7 +21,7 @@ returns-then-met-ne0 c =
 
 pub search-r-requires : goal.search-r-requires
 search-r-requires c =
-    (c.requires.linked.fit_reach, refl, refl, c.if1.false, λ l e. (c.requires.labels l e).1)
+    (c.requires.linked.fit_reach, refl, refl, c.if-met-ne0.false, λ l e. (c.requires.labels l e).1)
 
 pub shift-requires : goal.shift-requires
 shift-requires c =

@@ -43,19 +43,19 @@ loop-layer-init c =
 
 pub returns-then-met-ne0 : goal.returns-then-met-ne0
 returns-then-met-ne0 c =
-    let t = (goal.at.returns-then-met-ne0 c).After-way_told-in-loop-layer-1 in searched_by (searching_met (head t).loop-layer.invariant.0 (l t) (left t) (fits t) c.if-met-ne0.true) c.met_at.ensures
+    let t = (goal.at.returns-then-met-ne0 c).After-lowest-l in searched_by (searching_met (head t).loop-layer.invariant.0 (l t) (left t) (fits t) c.if-met-ne0.true) c.met_at.ensures
 
 pub returns-then-all-eq0 : goal.returns-then-all-eq0
 returns-then-all-eq0 c =
-    let t = (goal.at.returns-then-all-eq0 c).After-way_told-in-loop-layer-1 in searched_by (turn_last (head t).loop-layer.invariant.0 (head t).loop-layer.invariant.1 (fits t) (some t) (l t) (low t) c.if-met-ne0.false c.if-left-eq0.true c.if-all-eq0.true) c.none_at.ensures
+    let t = (goal.at.returns-then-all-eq0 c).After-lowest-l in searched_by (turn_last (head t).loop-layer.invariant.0 (head t).loop-layer.invariant.1 (fits t) (some t) (l t) (low t) c.if-met-ne0.false c.if-left-eq0.true c.if-all-eq0.true) c.none_at.ensures
 
 pub loop-layer-preserved-then-left-eq0 : goal.loop-layer-preserved-then-left-eq0
 loop-layer-preserved-then-left-eq0 c =
-    let t = (goal.at.loop-layer-preserved-then-left-eq0 c).After-way_told-in-loop-layer-1 in turn_next (head t).loop-layer.invariant.0 (head t).loop-layer.invariant.1 (fits t) (some t) (l t) (low t) c.if-met-ne0.false c.if-left-eq0.true
+    let t = (goal.at.loop-layer-preserved-then-left-eq0 c).After-lowest-l in turn_next (head t).loop-layer.invariant.0 (head t).loop-layer.invariant.1 (fits t) (some t) (l t) (low t) c.if-met-ne0.false c.if-left-eq0.true
 
 pub loop-layer-preserved : goal.loop-layer-preserved
 loop-layer-preserved c =
-    let t = (goal.at.loop-layer-preserved c).After-way_told-in-loop-layer-1 in turn_same (head t).loop-layer.invariant.0 (head t).loop-layer.invariant.1 (fits t) (some t) (l t) (low t) c.if-met-ne0.false c.if-left-eq0.false
+    let t = (goal.at.loop-layer-preserved c).After-lowest-l in turn_same (head t).loop-layer.invariant.0 (head t).loop-layer.invariant.1 (fits t) (some t) (l t) (low t) c.if-met-ne0.false c.if-left-eq0.false
 
 pub returns : goal.returns
 returns c =
@@ -68,31 +68,31 @@ pub offset_bounds-reach-l : goal.offset_bounds-reach-l
 offset_bounds-reach-l c = omega (arith, small c)
 
 pub bounds-reach-l : goal.bounds-reach-l
-bounds-reach-l c = small c
+bounds-reach-l c = small (goal.at.bounds-reach-l c).After-lowest-l
 
 pub overflow_cast-by : goal.overflow_cast-by
-overflow_cast-by c = omega (arith, small (goal.at.overflow_cast-by c).After-way_told-1)
+overflow_cast-by c = omega (arith, small (goal.at.overflow_cast-by c).After-lowest-l)
 
 pub bounds-by-count : goal.bounds-by-count
-bounds-by-count c = few (goal.at.bounds-by-count c).After-new-1
+bounds-by-count c = few (goal.at.bounds-by-count c).After-lowest-l
 
 pub offset_bounds-words-count : goal.offset_bounds-words-count
-offset_bounds-words-count c = omega (arith, few (goal.at.offset_bounds-words-count c).After-new-1)
+offset_bounds-words-count c = omega (arith, few (goal.at.offset_bounds-words-count c).After-lowest-l)
 
 pub bounds-words-count : goal.bounds-words-count
-bounds-words-count c = few (goal.at.bounds-words-count c).After-way_told-in-loop-layer-1
+bounds-words-count c = few (goal.at.bounds-words-count c).After-lowest-l
 
 pub overflow_add-count : goal.overflow_add-count
-overflow_add-count c = omega (arith, few (goal.at.overflow_add-count c).After-way_told-in-loop-layer-1)
+overflow_add-count c = omega (arith, few (goal.at.overflow_add-count c).After-lowest-l)
 
 pub met_at-requires : goal.met_at-requires
 met_at-requires c = c.if-met-ne0.true
 
 pub overflow_sub-left : goal.overflow_sub-left
-overflow_sub-left c = omega (arith, some (goal.at.overflow_sub-left c).After-way_told-in-loop-layer-1)
+overflow_sub-left c = omega (arith, some (goal.at.overflow_sub-left c).After-lowest-l)
 
 pub loop-layer-smaller-then-left-eq0 : goal.loop-layer-smaller-then-left-eq0
-loop-layer-smaller-then-left-eq0 c = omega (arith, few (goal.at.loop-layer-smaller-then-left-eq0 c).After-way_told-in-loop-layer-1)
+loop-layer-smaller-then-left-eq0 c = omega (arith, few (goal.at.loop-layer-smaller-then-left-eq0 c).After-lowest-l)
 
 pub loop-layer-smaller : goal.loop-layer-smaller
-loop-layer-smaller c = omega (arith, few (goal.at.loop-layer-smaller c).After-way_told-in-loop-layer-1)
+loop-layer-smaller c = omega (arith, few (goal.at.loop-layer-smaller c).After-lowest-l)

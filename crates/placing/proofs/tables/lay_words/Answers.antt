@@ -51,7 +51,7 @@ module _ (t : In-loop-u) where
 -- where its labels end
 module _ (c : After-wide) where
   abbrev turn : In-loop-u
-  turn = (goal.at.After-wide c).After-way_told-1
+  turn = (goal.at.After-wide c).In-loop-u
 
   degree : c.wide.result ≡ (I turn).degree (u turn)
   unfolding instance_of
@@ -71,14 +71,14 @@ pub offset_bounds-starts-u : goal.offset_bounds-starts-u
 offset_bounds-starts-u c = omega (arith, few c)
 
 pub bounds-starts-u : goal.bounds-starts-u
-bounds-starts-u c = few c
+bounds-starts-u c = few (goal.at.bounds-starts-u c).In-loop-u
 
 pub overflow_add-from : goal.overflow_add-from
-overflow_add-from c = let t = (goal.at.overflow_add-from c).After-way_told-1 in omega (arith, inside t, (sound t).short)
+overflow_add-from c = let t = (goal.at.overflow_add-from c).In-loop-u in omega (arith, inside t, (sound t).short)
 
 pub bounds-sheet-u : goal.bounds-sheet-u
 bounds-sheet-u c =
-    let t = (goal.at.bounds-sheet-u c).After-way_told-1 in omega (arith, node t, bytes_inside (sound t) (node t))
+    let t = (goal.at.bounds-sheet-u c).In-loop-u in omega (arith, node t, bytes_inside (sound t) (node t))
 
 pub overflow_add-past : goal.overflow_add-past
 overflow_add-past c = omega (arith, inside (turn c), (sound (turn c)).short, degree c)
@@ -94,22 +94,22 @@ pub offset_bounds-sets-u : goal.offset_bounds-sets-u
 offset_bounds-sets-u c = omega (arith, few (turn (goal.at.offset_bounds-sets-u c).After-wide))
 
 pub bounds-sets-u : goal.bounds-sets-u
-bounds-sets-u c = few (turn (goal.at.bounds-sets-u c).After-row_of-arg-1)
+bounds-sets-u c = few (turn (goal.at.bounds-sets-u c).After-wide)
 
 pub bounds-own-u : goal.bounds-own-u
-bounds-own-u c = few (turn (goal.at.bounds-own-u c).After-row_of-row)
+bounds-own-u c = few (turn (goal.at.bounds-own-u c).After-wide)
 
 pub overflow_add-u : goal.overflow_add-u
-overflow_add-u c = omega (arith, few (turn (goal.at.overflow_add-u c).After-row_of-row))
+overflow_add-u c = omega (arith, few (turn (goal.at.overflow_add-u c).After-wide))
 
 pub loop-u-smaller : goal.loop-u-smaller
-loop-u-smaller c = omega (arith, (turn (goal.at.loop-u-smaller c).After-row_of-row).loop-u-test.true)
+loop-u-smaller c = omega (arith, (turn (goal.at.loop-u-smaller c).After-wide).loop-u-test.true)
 
 pub loop-u-preserved : goal.loop-u-preserved
 loop-u-preserved c =
-    let b = (goal.at.loop-u-preserved c).After-row_of-row in let t = turn b in
+    let b = (goal.at.loop-u-preserved c).After-wide in let t = turn b in
     let w = subst (λ l. Worded (entry l) (length l) c.row_of-row.result.word c.row_of-row.result.own) (row_is b) c.row_of-row.ensures in
-    (omega (arith, t.loop-test.taken), laid_more (sound t) (node t) w t.before.loop.inv.1)
+    (omega (arith, t.loop-u-test.true), laid_more (sound t) (node t) w t.loop-u.invariant.1)
 
 pub returns : goal.returns
 returns c =

@@ -1,0 +1,41 @@
+-- `label_leasts` meets its contract: the places are gone through, each label's least kept in its place.
+use Rattle.std.proofs.Common.{◌≡◌, ◌-◌, ◌≤◌, length, get_or, pos, ap, ◌∙◌, ap₂, arith, rules}
+use Rattle.integers.specs.Least.{min_ℤ}
+use Rattle.integers.proofs.Bits.{same}
+use Rattle.instance.specs.Sheet.{instance_of}
+use Rattle.messages.specs.Bounds.{least_labels}
+use Rattle.messages.proofs.LabelLaws.{leasts_none, leasts_turn}
+use Rattle.messages.proofs.bound.label_leasts.Goals as goal
+
+pub loop-i-init : goal.loop-i-init
+loop-i-init c = (omega arith, leasts_none _ _)
+
+pub label_at-l-requires : goal.label_at-l-requires
+label_at-l-requires c = (c.requires.viewed, omega (arith, c.loop-i-test.true, c.requires.node_fits.size))
+
+pub offset_bounds-least-l : goal.offset_bounds-least-l
+offset_bounds-least-l c = omega (arith, c.label_at-l.ensures.1)
+
+pub bounds-least-l : goal.bounds-least-l
+bounds-least-l c = c.label_at-l.ensures.1
+
+pub offset_bounds-least-l-in-loop-i : goal.offset_bounds-least-l-in-loop-i
+offset_bounds-least-l-in-loop-i c = omega (arith, c.label_at-l.ensures.1)
+
+pub bounds-least-l-in-loop-i : goal.bounds-least-l-in-loop-i
+bounds-least-l-in-loop-i c = c.label_at-l.ensures.1
+
+pub loop-i-preserved : goal.loop-i-preserved
+loop-i-preserved c =
+    let a = c.args in
+    let x = get_or a.labels.now c.loop-i.i (pos 0) in
+    let y = get_or c.loop-i.least c.label_at-l.result (pos 0) in (
+      omega arith,
+      leasts_turn (instance_of a.sheet.now) a.labels.now c.loop-i.invariant.1 c.label_at-l.ensures.0 c.label_at-l.ensures.1
+          (same c.smaller.result c.smaller.type_inv ∙ c.smaller.ensures ∙ ap₂ min_ℤ (same x c.smaller-arg-1.given) (same y c.smaller-arg-in-loop-i-1.given)),
+    )
+
+pub returns : goal.returns
+returns c =
+    let e : c.loop-i.i ≡ length c.args.labels.now = omega arith in
+    c.loop-i.invariant.1 ∙ ap (least_labels (instance_of c.args.sheet.now) c.args.labels.now) (e ∙ c.requires.node_fits.size)

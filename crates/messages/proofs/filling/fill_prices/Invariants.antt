@@ -1,0 +1,12 @@
+-- `fill_prices` meets its contract: the four bytes of each price are there.
+use Rattle.std.proofs.Common.{◌+◌, ◌-◌, ◌*◌, length, pos, ◌∙◌, arith, rules}
+use Rattle.integers.proofs.Bits.{same}
+use Rattle.instance.specs.Bytes.{price_at}
+use Rattle.integers.proofs.Filling.{Filling, fill_none, fill_more, fill_all}
+use Rattle.messages.proofs.filling.fill_prices.Given as goal
+
+abbrev pub invariant-loop-i : goal.invariant-loop-i
+invariant-loop-i l = Filling (λ k. price_at l.sheet (l.at + 4 * k)) l.initial.costs l.costs l.i
+
+abbrev pub decreases-loop-i : goal.decreases-loop-i
+decreases-loop-i l = length l.initial.costs - l.i

@@ -1,0 +1,14 @@
+-- `fill_zero` meets its contract.
+use Rattle.std.proofs.Common.{◌-◌, length, pos, ◌∙◌, arith, rules}
+use Rattle.integers.proofs.Filling.{Filling, fill_none, fill_more, fill_all, tabulate_same}
+use Rattle.messages.proofs.filling.fill_zero.Goals as goal
+
+pub loop-i-init : goal.loop-i-init
+loop-i-init c = fill_none (λ k. pos 0) _
+
+pub loop-i-preserved : goal.loop-i-preserved
+loop-i-preserved c = fill_more (λ k. pos 0) (pos 0) c.loop-i.invariant (omega arith)
+
+pub returns : goal.returns
+returns c =
+    fill_all (λ k. pos 0) c.loop-i.invariant (omega arith) ∙ tabulate_same (length c.args.costs.now) (pos 0)

@@ -1,0 +1,14 @@
+-- `edge_part` meets its contract: after e turns the sum is that of the first e edges.
+use Rattle.std.proofs.Common.{◌≡◌, ℕ, ◌+◌, ◌-◌, ◌*◌, ◌≤◌, List, ◌+ℤ◌, nat_abs, ap, ◌∙◌, arith, to_z-of_z, w64, SFits, to_z}
+use Rattle.integers.proofs.Bits.{same}
+use Rattle.instance.specs.Sheet.{instance_of}
+use Rattle.rules.specs.Costs.{chosen_cell}
+use Rattle.messages.proofs.SheetLaws.{whole, proper, edges_few_lem, edge_price_here}
+use Rattle.messages.proofs.SumLaws.{Added, added_none, added_fits, added_more, added_all}
+use Rattle.messages.proofs.incumbent.edge_part.Given as goal
+
+abbrev pub invariant-loop-e : goal.invariant-loop-e
+invariant-loop-e l = (l.e ≤ l.count) × Added 1_000_000 (λ d. (instance_of l.sheet).edge_price (chosen_cell (instance_of l.sheet) l.x d)) l.sum l.e
+
+abbrev pub decreases-loop-e : goal.decreases-loop-e
+decreases-loop-e l = l.count - l.e

@@ -1,0 +1,50 @@
+-- `given` meets its contract: the node's amount, or the label's turned round.
+use Rattle.std.proofs.Common.{◌≡◌, ◌+◌, ◌^◌, ◌≤◌, Bool, true, ℤ, pos, ◌-ℤ◌, nat_abs, sym, ap, ◌∙◌, subst, arith}
+use Rattle.integers.proofs.Bits.{same}
+use Rattle.instance.specs.Instance.{exclusive}
+use Rattle.instance.specs.Sheet.{instance_of}
+use Rattle.messages.specs.LabelMessage.{label_amount, label_given}
+use Rattle.messages.proofs.RowLaws.{from_zero, zero_fits, neg_fits}
+use Rattle.messages.proofs.LabelMessageLaws.{place_in, node_fits, label_fits}
+use Rattle.messages.proofs.label_message.given.Goals as goal
+use Rattle.messages.proofs.label_message.given.Goals.{Start}
+
+module _ (q : Start) where
+  abbrev given : Bool → ℤ
+  given t = let a = q.args in label_given (instance_of a.sheet.now) a.nodes.now a.labels.now t a.step.node (a.at + a.step.index) a.step.share
+
+  abbrev amount : ℤ
+  amount = let a = q.args in label_amount (instance_of a.sheet.now) a.labels.now (a.at + a.step.index) a.step.share
+
+  small : nat_abs amount ≤ 2 ^ 41
+  small = let a = q.args in label_fits (instance_of a.sheet.now) a.labels.now q.requires.node_fits.1.range (a.at + a.step.index) a.step.share
+
+  -- the record's label is not 255
+  exclusive-at : exclusive ((instance_of q.args.sheet.now).label (q.args.at + q.args.step.index)) ≡ true
+  exclusive-at = rw q.requires.viewed.1.begins q.requires.viewed.1.exclusive
+
+pub overflow_add-at : goal.overflow_add-at
+overflow_add-at c = omega (arith, place_in c.requires.viewed.1 c.requires.node_fits.1)
+
+pub label_amount-requires : goal.label_amount-requires
+label_amount-requires c =
+    record { viewed = (c.requires.viewed.0, omega (arith, place_in c.requires.viewed.1 c.requires.node_fits.1, c.requires.node_fits.1.size), c.requires.viewed.1.some, exclusive-at (goal.at.label_amount-requires c).Start); holders = c.requires.holders; node_fits = c.requires.node_fits.1 }
+
+pub minus-requires : goal.minus-requires
+minus-requires c =
+    let q = (goal.at.minus-requires c).Start in rw (same c.label_amount.result c.label_amount.type_inv, c.label_amount.ensures) (zero_fits (amount q) (small q))
+
+pub node_amount-requires : goal.node_amount-requires
+node_amount-requires c = record { place_asked = c.requires.viewed.1; node_fits = c.requires.node_fits.0 }
+
+pub returns-then-turned : goal.returns-then-turned
+returns-then-turned c =
+    let q = (goal.at.returns-then-turned c).Start in let e =
+    same c.minus.result c.minus.type_inv ∙ c.minus.ensures ∙ ap (λ (z : ℤ). pos 0 -ℤ z) (same c.label_amount.result c.label_amount.type_inv ∙ c.label_amount.ensures) ∙ from_zero (amount q)
+    in (e ∙ ap (given q) (sym c.if-turned.true), subst (λ (z : ℤ). nat_abs z ≤ 2 ^ 41) (sym e) (neg_fits (amount q) (small q)))
+
+pub returns-else-turned : goal.returns-else-turned
+returns-else-turned c =
+    let a = c.args in
+    let e = same c.node_amount.result c.node_amount.type_inv ∙ c.node_amount.ensures in
+    (e ∙ ap (given (goal.at.returns-else-turned c).Start) (sym c.if-turned.false), subst (λ (z : ℤ). nat_abs z ≤ 2 ^ 41) (sym e) (node_fits (instance_of a.sheet.now) a.nodes.now c.requires.node_fits.0.range a.step.node (a.at + a.step.index) a.step.share))

@@ -1,0 +1,13 @@
+-- `incumbent_ok` meets its contract: all 255, or a matching.
+use Rattle.std.proofs.Common.{sym, ◌∙◌, rules}
+use Rattle.instance.specs.Sheet.{instance_of}
+use Rattle.messages.proofs.LentLaws.{incumbent_none, incumbent_some}
+use Rattle.messages.proofs.lent.incumbent_ok.Goals as goal
+
+pub returns-then-all_none : goal.returns-then-all_none
+returns-then-all_none c =
+    incumbent_none (instance_of c.args.sheet.now) c.args.x.now (sym c.all_none.ensures ∙ c.if-all_none.true)
+
+pub returns : goal.returns
+returns c =
+    c.is_matching.ensures ∙ incumbent_some (instance_of c.args.sheet.now) c.args.x.now (sym c.all_none.ensures ∙ c.if-all_none.false)

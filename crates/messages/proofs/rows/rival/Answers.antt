@@ -1,0 +1,28 @@
+-- `rival` meets its contract: the first of the others is the start value, and counts as an element besides.
+use Rattle.std.proofs.Common.{ℕ, ◌≤◌, get_or, ℤ, pos, ap, ◌∙◌, ⊎_elim, arith, rules}
+use Rattle.integers.specs.Least.{least_from, without}
+use Rattle.integers.proofs.Rows.{length_without}
+use Rattle.integers.proofs.Bits.{same, answer}
+use Rattle.messages.proofs.LeastLaws.{least_whole, first_but_first, first_but_later}
+use Rattle.messages.proofs.rows.rival.Goals as goal
+use Rattle.messages.proofs.rows.rival.Goals.{Joined-k-eq0}
+
+few : (j : Joined-k-eq0) → j.if-k-eq0.other ≤ 1
+few j = ⊎_elim (λ m. omega arith) (λ m. omega arith) j.if-k-eq0.branch
+
+pub returns : goal.returns
+returns c =
+    let l = c.args.row.now in
+    let k = c.args.k in
+    let at : ℕ → ℤ = (λ i. get_or l i (pos 0)) in
+    answer c.least_but.type_inv c.least_but.ensures
+    ∙ ap (λ (z : ℤ). least_from z (without l k))
+    (same (at c.if-k-eq0.other) c.least_but-arg-1.given
+    ∙ ⊎_elim (λ m. ap at m.1 ∙ first_but_first l k (pos 0) m.0.taken) (λ m. ap at m.1 ∙ first_but_later l k (pos 0) m.0.left) c.if-k-eq0.branch)
+    ∙ least_whole (without l k) (pos 0) (omega (arith, length_without l k c.requires.0))
+
+pub offset_bounds-row-other : goal.offset_bounds-row-other
+offset_bounds-row-other c = omega (arith, few (goal.at.offset_bounds-row-other c).Joined-k-eq0)
+
+pub bounds-row-other : goal.bounds-row-other
+bounds-row-other c = omega (arith, few (goal.at.bounds-row-other c).Joined-k-eq0)
