@@ -129,12 +129,14 @@ class Function:
         rest = ["type_inv" if x == "type-inv" else x for x in comps[1:]]
         if rest[:1] == ["inv"]:
             rest[0] = "invariant"
-        if rest[:1] == ["taken"]:
+        if rest[:1] == ["taken"] and (old.startswith("if") or old.endswith("test")):
             rest[0] = "true"
-        if rest[:1] == ["left"] and (norm(old).startswith("if") or norm(old).endswith("test")):
+        if rest[:1] == ["left"] and (old.startswith("if") or old.endswith("test")):
             rest[0] = "false"
         if rest[:1] == ["ok"]:
             rest[0] = "type_inv"
+        if rest[:1] == ["new"] and rest[1:2] and rest[1] in ("0", "1"):
+            rest[0] = "last"
         if rest[:1] == ["last"]:
             k = 0
             rest = rest[1:]

@@ -1,6 +1,6 @@
 -- Every list of calls after an opening keeps to the rules and to demand 3. The steps of a trace are the generated postconditions of `open`, `run` and `report`.
 -- Assumes nothing.
-use Rattle.std.proofs.Common.{◌≡◌, ℕ, cond, eqb, List, [], ◌∷◌, ℤ, sym, refl, ap, ◌∙◌, subst, ap₂, Bor, eq-eqb, eqb-true}
+use Rattle.std.proofs.Common.{◌≡◌, ℕ, cond, eqb, List, [], ◌∷◌, ℤ, sym, refl, ap, ◌∙◌, subst, ap₂, Bor, MutBor, eq-eqb, eqb-true}
 use contract.Lifetimes.{Lfts}
 use borrow.Fn.World.{ArgsD, ResD}
 use denote.Triple.Clauses.{Ended, AtExit, Lasts, at_exit}
@@ -36,9 +36,12 @@ pub record Made (T : Ended) (Q : (κs : Lfts T.signature.lifetimes) → ArgsD T.
   pub lasts : Lasts T κs args
   pub promise : Q κs args answer (at_exit T κs args lasts)
 
--- the four buffers, as references to them stand one after another
-abbrev four : {A : Type 0} → (Bor (List ℤ) × (Bor (List ℤ) × (Bor (List ℤ) × (Bor (List ℕ) × A)))) → Buffers
+-- the four buffers, as references to them stand one after another: lent to write, and lent to read
+abbrev four : {A : Type 0} → (MutBor (List ℤ) × (MutBor (List ℤ) × (MutBor (List ℤ) × (MutBor (List ℕ) × A)))) → Buffers
 four (nodes, (labels, (edges, (incumbent, rest)))) = lent nodes.now labels.now edges.now incumbent.now
+
+abbrev four_read : {A : Type 0} → (Bor (List ℤ) × (Bor (List ℤ) × (Bor (List ℤ) × (Bor (List ℕ) × A)))) → Buffers
+four_read (nodes, (labels, (edges, (incumbent, rest)))) = lent nodes.now labels.now edges.now incumbent.now
 
 -- what is lent to a call and what it leaves: behind the sheet, and for a run behind the records too
 module _ (c : Made Open.ended OpenReads.Post) where
@@ -57,10 +60,10 @@ module _ (c : Made Run.ended RunReads.Post) where
 
 module _ (c : Made Reporting.ended ReportingReads.Post) where
   abbrev report_lent : Buffers
-  report_lent = four c.args.1
+  report_lent = four_read c.args.1
 
   abbrev report_left : Buffers
-  report_left = four (at_exit Reporting.ended c.κs c.args c.lasts).1
+  report_left = four_read (at_exit Reporting.ended c.κs c.args c.lasts).1
 
 -- `Opens s m r n`: lent the sheet s and the buffers m, an opening answered r and left the buffers n
 pub data Opens : List ℕ → Buffers → ℕ → Buffers → Type 0 where
@@ -173,11 +176,14 @@ trace s cs ps t = (as_ruled t, subst (Holds (instance_of s)) (sym (as_ruled t)) 
 abbrev ref : {A : Type 0} → List A → Bor (List A)
 ref l = record { ref_ptr = (0, 0); now = l }
 
+abbrev mut_ref : {A : Type 0} → List A → MutBor (List A)
+mut_ref l = record { ref_ptr = (0, 0); ghost_name = 0; now = l }
+
 -- an opening that answers 0, lent b and leaving n
 some_open : (s : List ℕ) (b n : Buffers) → opens n 0 ≡ open_of s b → Opens s b 0 n
 some_open s b n e = opened_by (record {
   κs = ([], ([], ([], ([], ([], tt)))));
-  args = (ref s, (ref b.nodes, (ref b.labels, (ref b.edges, (ref b.incumbent, tt)))));
+  args = (ref s, (mut_ref b.nodes, (mut_ref b.labels, (mut_ref b.edges, (mut_ref b.incumbent, tt)))));
   answer = 0;
   lasts = (tt, (n.nodes, (n.labels, (n.edges, (n.incumbent, tt)))));
   promise = e;
@@ -191,7 +197,7 @@ answer_of q = record { done = q.finished; stuck = q.stuck; refusal = q.refusal }
 some_run : (s l : List ℕ) (b : Buffers) (q : Ran) → q ≡ run_of s cost_limit b l → Runs s l b (answer_of q) q.buffers
 some_run s l b q e = ran_by (record {
   κs = ([], ([], ([], ([], ([], ([], tt))))));
-  args = (ref s, (ref l, (ref b.nodes, (ref b.labels, (ref b.edges, (ref b.incumbent, tt))))));
+  args = (ref s, (ref l, (mut_ref b.nodes, (mut_ref b.labels, (mut_ref b.edges, (mut_ref b.incumbent, tt))))));
   answer = answer_of q;
   lasts = (tt, (tt, (q.buffers.nodes, (q.buffers.labels, (q.buffers.edges, (q.buffers.incumbent, tt))))));
   promise = e;

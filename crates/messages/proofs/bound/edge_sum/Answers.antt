@@ -36,15 +36,15 @@ module _ (d : After-size_of) where
   I = instance_of s
 
   abbrev cells : List ℤ
-  cells = let a = head.loop-e.at in part start.args.edges.now a (a + d.type_size.result - a)
+  cells = let a = head.loop-e.at in part start.args.edges.now a (a + d.size_of.result - a)
 
-  inside : head.loop-e.at + d.type_size.result ≤ length start.args.edges.now
-  inside = part_inside head.loop-e.invariant d.loop-e-test.true d.type_size.result d.type_size.ensures (edge_parts start.requires.viewed.0 start.requires.edge_fits)
+  inside : head.loop-e.at + d.size_of.result ≤ length start.args.edges.now
+  inside = part_inside head.loop-e.invariant d.loop-e-test.true d.size_of.result d.size_of.ensures (edge_parts start.requires.viewed.0 start.requires.edge_fits)
 
   fits : Fits (table_size I head.loop-e.e) cells
   fits = record {
-    size = part_length head.loop-e.invariant d.loop-e-test.true d.type_size.result d.type_size.ensures (edge_parts start.requires.viewed.0 start.requires.edge_fits);
-    range = part_range head.loop-e.invariant d.loop-e-test.true d.type_size.result d.type_size.ensures (edge_parts start.requires.viewed.0 start.requires.edge_fits);
+    size = part_length head.loop-e.invariant d.loop-e-test.true d.size_of.result d.size_of.ensures (edge_parts start.requires.viewed.0 start.requires.edge_fits);
+    range = part_range head.loop-e.invariant d.loop-e-test.true d.size_of.result d.size_of.ensures (edge_parts start.requires.viewed.0 start.requires.edge_fits);
   }
 
   -- the least usable of some cells of this edge
@@ -63,14 +63,14 @@ least-is c = answer c.cell_least.type_inv c.cell_least.ensures
 pub plus-sum-requires : goal.plus-sum-requires
 plus-sum-requires c =
     let d = (goal.at.plus-sum-requires c).After-size_of in rw (least-is c)
-    (summed_fits (head d).loop-e.invariant c.loop-e-test.true c.type_size.result c.type_size.ensures (least d (cells d)) (small d) (omega (arith, edges_few_lem (start d).requires.viewed.0)))
+    (summed_fits (head d).loop-e.invariant c.loop-e-test.true c.size_of.result c.size_of.ensures (least d (cells d)) (small d) (omega (arith, edges_few_lem (start d).requires.viewed.0)))
 
 pub loop-e-preserved : goal.loop-e-preserved
 unfolding table
 loop-e-preserved c =
     let d = (goal.at.loop-e-preserved c).After-size_of in rw (answer c.plus-sum.type_inv c.plus-sum.ensures, least-is (goal.at.loop-e-preserved c).After-cell_least)
-    (summed_more (head d).loop-e.invariant c.loop-e-test.true c.type_size.result c.type_size.ensures (least d (cells d)) (small d)
-    (ap (least d) (part_is (head d).loop-e.invariant c.loop-e-test.true c.type_size.result c.type_size.ensures (edge_parts (start d).requires.viewed.0 (start d).requires.edge_fits))))
+    (summed_more (head d).loop-e.invariant c.loop-e-test.true c.size_of.result c.size_of.ensures (least d (cells d)) (small d)
+    (ap (least d) (part_is (head d).loop-e.invariant c.loop-e-test.true c.size_of.result c.size_of.ensures (edge_parts (start d).requires.viewed.0 (start d).requires.edge_fits))))
 
 pub returns : goal.returns
 returns c = let i = c.loop-e.invariant in added_all i.added i.upto c.loop-e-test.false

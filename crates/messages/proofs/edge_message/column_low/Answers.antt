@@ -7,7 +7,7 @@ use Rattle.messages.proofs.EdgeLaws.{cell_in}
 use Rattle.messages.proofs.UsableLaws.{least_but, but_none, but_skipped, but_more, but_all}
 use Rattle.messages.proofs.edge_message.column_low.Goals as goal
 use Rattle.messages.proofs.edge_message.column_low.Invariants.{column}
-use Rattle.messages.proofs.edge_message.column_low.Goals.{In-loop-r, Start}
+use Rattle.messages.proofs.edge_message.column_low.Goals.{then-r-skip, else-r-skip, In-loop-r, Start}
 
 -- the column's cell of this turn is one of the table
 module _ (c : In-loop-r) where
@@ -30,11 +30,11 @@ loop-r-preserved c =
     let f = column l x.width x.k in (
       omega arith,
       omega (arith, c.loop-r.invariant),
-      ⊎_elim
-          (λ m. ap (to_z w64) m.2 ∙ answer m.1.ok m.1.ensures ∙ ap₂ (λ (i : ℕ) (b : ℤ). min_ℤ (get_or l i (pos 0)) b) c.loop-r.invariant.1 c.loop-r.invariant.2
-          ∙ but_more f unbounded x.skip c.loop-r.r m.0.taken)
-          (λ m. ap (to_z w64) m.1 ∙ c.loop-r.invariant.2 ∙ but_skipped f unbounded x.skip c.loop-r.r m.0.left)
-          c.if-r-skip.branch,
+      elim c.if-r-skip.branch [
+        then-r-skip w ↦ w.best-is ∙ answer w.less_at-best.type_inv w.less_at-best.ensures ∙ ap₂ (λ (i : ℕ) (b : ℤ). min_ℤ (get_or l i (pos 0)) b) c.loop-r.invariant.1 c.loop-r.invariant.2
+            ∙ but_more f unbounded x.skip c.loop-r.r w.if-r-skip.true
+        | else-r-skip w ↦ w.best-is ∙ c.loop-r.invariant.2 ∙ but_skipped f unbounded x.skip c.loop-r.r w.if-r-skip.false
+      ],
     )
 
 pub returns : goal.returns

@@ -3,6 +3,7 @@ use Rattle.std.proofs.Common.{◌+ℤ◌, ap, ◌∙◌, ap₂, to_z-of_z, rules
 use Rattle.integers.specs.Checks.{within}
 use Rattle.integers.proofs.Parts.{linear, add, abs}
 use Rattle.messages.proofs.edge_message.excess_with.Goals as goal
+use Rattle.messages.proofs.edge_message.excess_with.Goals.{Start}
 
 pub overflow_add-cost : goal.overflow_add-cost
 overflow_add-cost c =

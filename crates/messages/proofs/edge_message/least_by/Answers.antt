@@ -28,7 +28,7 @@ module _ (c : After-either-height) where
 
 pub low_at-requires : goal.low_at-requires
 low_at-requires c =
-    let s = (goal.at.low_at-requires c).After-either-height in sized (b s) (q s).requires (wide s) (high s) c.loop-k-test.true
+    let s = (goal.at.low_at-requires c).After-either-height in let (shape, bound) = sized (b s) (q s).requires (wide s) (high s) c.loop-k-test.true in record { shape = shape; k_bound = bound }
 
 pub loop-k-preserved : goal.loop-k-preserved
 loop-k-preserved c =

@@ -79,7 +79,7 @@ returns c =
     let e = a + length (own p) in
     let t = get_or x.tables.now x.step.index 0 in
     let d = t + length (own p) * length (other p) in
-    (λ i. edge_move c.move_parts.result (part_back a e x.nodes.now c.move_parts.new.0 (omega arith) i) (part_back t d x.edges.now c.move_parts.new.1.0 (omega arith) i))
+    (λ i. edge_move c.move_parts.result (part_back a e x.nodes.now c.move_parts.new.row (omega arith) i) (part_back t d x.edges.now c.move_parts.new.cells (omega arith) i))
     ∙ ap (put_back x.nodes.now x.edges.now a e t d) c.move_parts.ensures ∙ legal_moved (q (o p)).requires (named (o p)) (own_is p) (other_is p) x.view.limit x.turned
 
 pub offset_bounds-starts-u : goal.offset_bounds-starts-u

@@ -14,7 +14,7 @@ use Rattle.messages.proofs.edge_record.move_parts.Goals.{After-amounts_of-amount
 -- the amounts: none passes twice the limit
 module _ (p : After-amounts_of-amounts) where
   abbrev sizes : After-either-height
-  sizes = (goal.at.After-amounts_of-amounts p).After-shared_slice_known-2-1
+  sizes = (goal.at.After-amounts_of-amounts p).After-either-height
 
   abbrev start : Start
   start = (goal.at.After-either-height sizes).Start

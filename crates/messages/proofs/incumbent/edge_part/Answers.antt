@@ -33,7 +33,7 @@ module _ (c : After-price_at-sum) where
   small : nat_abs c.price_at-sum.result ≤ 1_000_000
   small = rw there ((proper (s cell) (start cell).requires.viewed.0.readable).edge_priced cell.cell_of.result cell.cell_of.ensures.1)
 
-  fits : SFits w64 (to_z w64 (head cell).loop-e.sum +ℤ c.price_at-sum.result)
+  fits : SFits w64 (to_z w64 (head cell).loop-e.sum-bits +ℤ c.price_at-sum.result)
   fits = added_fits (head cell).loop-e.invariant.1 c.price_at-sum.result small (omega arith) (omega (arith, cell.loop-e-test.true, edges_few_lem (start cell).requires.viewed.0))
 
 pub loop-e-init : goal.loop-e-init

@@ -53,7 +53,7 @@ module _ (c : After-price_at-sum) where
   small : nat_abs c.price_at-sum.result ≤ 1_000_000
   small = rw (price, sym (placed turn)) ((proper (s turn) (start turn).requires.viewed.0.readable).node_priced (place turn) (inside turn))
 
-  fits : SFits w64 (to_z w64 turn.loop-u.sum +ℤ c.price_at-sum.result)
+  fits : SFits w64 (to_z w64 turn.loop-u.sum-bits +ℤ c.price_at-sum.result)
   fits = added_fits turn.loop-u.invariant.1 c.price_at-sum.result small (omega arith) (omega (arith, few turn))
 
 pub loop-u-init : goal.loop-u-init

@@ -66,7 +66,7 @@ pub returns-then-lengths_agree : goal.returns-then-lengths_agree
 returns-then-lengths_agree c =
     let v = (goal.at.returns-then-lengths_agree c).After-view_of-view in let t = (goal.at.returns-then-lengths_agree c).Then-lengths_agree in let g = good t in
     let e = c.fill.ensures in
-    ap (λ (b : Buffers). opens b 0) (filled_opened (sheet g) (started (start g)) (viewed v).prices (viewed v).cells (agreed t) e.0 e.1.0 e.1.1.0 e.1.1.1)
+    ap (λ (b : Buffers). opens b 0) (filled_opened (sheet g) (started (start g)) (viewed v).prices (viewed v).cells (agreed t) e.nodes_after e.labels_after e.edges_after e.incumbent_after)
     ∙ open_fills (sheet g) (started (start g)) (unrefused (sheet g) (read g) g.if-layout-ne-NONE.false) (agreed t)
 
 pub returns-else-lengths_agree : goal.returns-else-lengths_agree

@@ -35,7 +35,7 @@ better_of-best-requires c =
 
 pub loop-k-preserved : goal.loop-k-preserved
 loop-k-preserved c =
-    let l = (goal.at.loop-k-preserved c).After-label_at-label in let a = c.args in (
+    let a = c.args in (
       omega arith,
       c.better_of-best.ensures
           ∙ ap₂ (λ (l b : ℕ). better (get_or a.untaken.now l false) (λ (i : ℕ). get_or a.keys.now i (pos 0)) b c.loop-k.k) c.label_at-label.ensures.0 c.loop-k.invariant.1

@@ -10,12 +10,12 @@ loop-i-preserved c =
     let s = c.args.row.now in
     let i = c.loop-i.i in (
       search rules,
-      ap (λ (z : ℤ). least_from z (drop (i + 1) s)) (answer c.less_at-best.type_inv c.less_at-best.ensures) ∙ least_step c.loop-i.best s i (pos 0) (omega arith)
+      ap (λ (z : ℤ). least_from z (drop (i + 1) s)) (answer c.less_at-best.type_inv c.less_at-best.ensures) ∙ least_step (to_z w64 c.loop-i.best-bits) s i (pos 0) (omega arith)
           ∙ c.loop-i.invariant.1,
     )
 
 pub returns : goal.returns
 returns c =
     let s = c.args.row.now in
-    least_done c.loop-i.best s c.loop-i.i c.loop-i-test.false ∙ c.loop-i.invariant.1
+    least_done (to_z w64 c.loop-i.best-bits) s c.loop-i.i c.loop-i-test.false ∙ c.loop-i.invariant.1
     ∙ ap (λ (z : ℤ). least_from z s) (to_z-of_z c.ranges.start)

@@ -5,10 +5,10 @@ use Rattle.integers.proofs.Rows.{length_without}
 use Rattle.integers.proofs.Bits.{same, answer}
 use Rattle.messages.proofs.LeastLaws.{least_whole, first_but_first, first_but_later}
 use Rattle.messages.proofs.rows.rival.Goals as goal
-use Rattle.messages.proofs.rows.rival.Goals.{Joined-k-eq0}
+use Rattle.messages.proofs.rows.rival.Goals.{Joined-k-eq0, then-k-eq0, else-k-eq0}
 
 few : (j : Joined-k-eq0) → j.if-k-eq0.other ≤ 1
-few j = ⊎_elim (λ m. omega arith) (λ m. omega arith) j.if-k-eq0.branch
+few j = elim j.if-k-eq0.branch [ then-k-eq0 w ↦ omega arith | else-k-eq0 w ↦ omega arith ]
 
 pub returns : goal.returns
 returns c =
@@ -18,7 +18,7 @@ returns c =
     answer c.least_but.type_inv c.least_but.ensures
     ∙ ap (λ (z : ℤ). least_from z (without l k))
     (same (at c.if-k-eq0.other) c.least_but-arg-1.given
-    ∙ ⊎_elim (λ m. ap at m.1 ∙ first_but_first l k (pos 0) m.0.taken) (λ m. ap at m.1 ∙ first_but_later l k (pos 0) m.0.left) c.if-k-eq0.branch)
+    ∙ elim c.if-k-eq0.branch [ then-k-eq0 w ↦ ap at w.other-is ∙ first_but_first l k (pos 0) w.if-k-eq0.true | else-k-eq0 w ↦ ap at w.other-is ∙ first_but_later l k (pos 0) w.if-k-eq0.false ])
     ∙ least_whole (without l k) (pos 0) (omega (arith, length_without l k c.requires.0))
 
 pub offset_bounds-row-other : goal.offset_bounds-row-other

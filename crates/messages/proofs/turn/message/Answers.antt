@@ -26,4 +26,4 @@ returns-else-step-lt3 c x g =
     let a = c.args in
     let r = a.step in
     sym (label_turn g r.kind r.node r.index r.share c.if-step-lt3.false c.requires.le_kind.1
-    ∙ ap (λ ((goal.at.returns-else-step-lt3 c).After-label_record : Moved). settle (lent c.nodes c.labels-1 a.edges.now x) 0 c.refusal) (sym c.label_record.ensures))
+    ∙ ap (λ (m : Moved). settle (lent m.nodes m.labels a.edges.now x) 0 m.refusal) (sym c.label_record.ensures))

@@ -47,5 +47,5 @@ message-requires c =
 
 pub returns : goal.returns
 returns c =
-    ap₂ (settle (lent c.message.new.1.1.1.1.1.0 c.message.new.1.1.1.1.1.1.0 c.message.new.1.1.1.1.1.1.1.0 c.args.incumbent.now)) c.refused-2.ensures.0 c.refused-2.ensures.1
+    ap₂ (settle (lent c.message.new.nodes c.message.new.labels c.message.new.edges c.args.incumbent.now)) c.refused-2.ensures.0 c.refused-2.ensures.1
     ∙ c.message.ensures c.args.incumbent.now c.requires.good

@@ -4,7 +4,7 @@ use Rattle.integers.proofs.Bits.{answer}
 use Rattle.messages.proofs.UsableLeast.{Passing, passing_none, passing_clear, passing_skip, passing_done}
 use Rattle.messages.proofs.EdgeLaws.{row_end}
 use Rattle.messages.proofs.usable.usable_least.Goals as goal
-use Rattle.messages.proofs.usable.usable_least.Goals.{After-clash-skip, At-loop-k, Start}
+use Rattle.messages.proofs.usable.usable_least.Goals.{then-skip-width, else-skip-width, After-clash-skip, At-loop-k, Start}
 
 -- the row of this turn lies in the table
 module _ (c : After-clash-skip) where
@@ -25,8 +25,10 @@ loop-k-preserved c =
     let d = (goal.at.loop-k-preserved c).After-clash-skip in let e = (q d).requires.ends in
     let h = c.loop-k-test.true in
     let z = c.clash-skip.ensures in
-    ⊎_elim (λ a. rw (a.3, a.4) (passing_skip e (p d).loop-k.invariant h (room d) z a.0.taken (answer a.2.ok a.2.ensures)))
-    (λ a. rw (a.1, a.2) (passing_clear e (p d).loop-k.invariant h (room d) z a.0.left)) c.if-skip-width.branch
+    elim c.if-skip-width.branch [
+      then-skip-width w ↦ rw (w.best-is, w.from-is) (passing_skip e (p d).loop-k.invariant h (room d) z w.if-skip-width.true (answer w.least-best.type_inv w.least-best.ensures))
+      | else-skip-width w ↦ rw (w.best-is, w.from-is) (passing_clear e (p d).loop-k.invariant h (room d) z w.if-skip-width.false)
+    ]
 
 pub returns : goal.returns
 returns c =

@@ -58,10 +58,10 @@ module _ (c : After-lay_words) where
   I = instance_of (s read)
 
   abbrev sets : List ℕ
-  sets = c.lay_words.new.1.1.1.0
+  sets = c.lay_words.new.sets
 
   abbrev own : List Bool
-  own = c.lay_words.new.1.1.1.1.0
+  own = c.lay_words.new.own
 
   proper : Proper I
   proper = (laid read).sound.proper

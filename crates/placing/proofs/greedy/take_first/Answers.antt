@@ -43,7 +43,7 @@ loop-u-preserved-then-open-ne0 c =
     let l = t.loop-u in
     let q = (start t).args in
     subst (λ b. Taking q.n q.sets.now q.own.now (set l.taken l.u c.lowest-l.result) (bit_xor l.free b) (l.u + 1)) (sym c.bit_of-free.ensures)
-    (taking_more l.inv (start t).requires.0 t.loop-u-test.true (low k))
+    (taking_more l.invariant (start t).requires.0 t.loop-u-test.true (low k))
 
 pub loop-u-preserved : goal.loop-u-preserved
 loop-u-preserved c =

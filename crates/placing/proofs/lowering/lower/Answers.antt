@@ -27,11 +27,11 @@ module _ (t : At-loop-rest) where
   abbrev vacant : ℕ
   vacant = t.with_label-vacant.result
 
-  still : Linked start.args.sets.now t.loop-rest.true t.loop-rest.holders t.loop-rest.reach start.args.free
+  still : Linked start.args.sets.now t.loop-rest.taken t.loop-rest.holders t.loop-rest.reach start.args.free
   still = let (a, b, c, _) = t.loop-rest.invariant in transport (λ j. Linked start.args.sets.now (sym a j) (sym b j) (sym c j) start.args.free) start.requires.0
 
   stays : ((x : ℕ) → bit t.loop-rest.rest x ≡ true → entry start.args.taken.now start.args.u ≤ x) → (n : ℕ) (own : List Bool) → Lowered n start.args.sets.now own start.args.taken.now start.args.closed start.args.u
-      → start.args.u < n → Lowest n start.args.sets.now own start.args.taken.now start.args.u t.loop-rest.true
+      → start.args.u < n → Lowest n start.args.sets.now own start.args.taken.now start.args.u t.loop-rest.taken
   stays least n own v b = subst (λ x. Lowest n start.args.sets.now own start.args.taken.now start.args.u x) (sym t.loop-rest.invariant.0) (lowest_stays start.requires.0 start.requires.1 t.loop-rest.invariant.3 v b least)
 
 -- the lowest label of the turn
@@ -60,11 +60,11 @@ module _ (c : After-chain-r) where
   s = start (head turn)
 
   chained : Chained s.args.sets.now (set s.args.taken.now s.args.u 255) s.args.holders.now s.args.reach.now (vacant (head turn)) (2 ^ turn.lowest-l.result) (head turn).loop-rest.seen s.args.u
-      c.chain-r.new.1.0 c.chain-r.new.1.1.0 c.chain-r.new.1.1.1.0 c.chain-r.result.found c.chain-r.result.free c.chain-r.result.seen
+      c.chain-r.new.taken c.chain-r.new.holders c.chain-r.new.reach c.chain-r.result.found c.chain-r.result.free c.chain-r.result.seen
   chained =
       let (a, b, d, _) = (head turn).loop-rest.invariant in
       transport (λ j. Chained s.args.sets.now (set (a j) s.args.u 255) (b j) (d j) (vacant (head turn)) (c.bit_of-start.ensures j) (head turn).loop-rest.seen s.args.u
-      c.chain-r.new.1.0 c.chain-r.new.1.1.0 c.chain-r.new.1.1.1.0 c.chain-r.result.found c.chain-r.result.free c.chain-r.result.seen) c.chain-r.ensures
+      c.chain-r.new.taken c.chain-r.new.holders c.chain-r.new.reach c.chain-r.result.found c.chain-r.result.free c.chain-r.result.seen) c.chain-r.ensures
 
 pub loop-rest-init : goal.loop-rest-init
 loop-rest-init c =
