@@ -41,7 +41,7 @@ sets_append out at (b ∷ k) l = let e : suc at + length k ≡ at + suc (length 
 pub length-to_edges : (u q : ℕ) (l : List ℕ) → length (to_edges u q l) ≡ length l
 unfolding to_edges
 length-to_edges u q [] = refl
-length-to_edges u q (e ∷ l) = ap suc (length-to_edges u _ l)
+length-to_edges u q (e ∷ l) = ap suc (length-to_edges u (q - 1) l)
 
 pub length-to_labels : (u degree : ℕ) → length (to_labels u (range 0 degree)) ≡ degree
 unfolding to_labels
