@@ -3,23 +3,11 @@ use mathlib.Core.List.{[], ◌∷◌}
 use mir.Facts.{to_z-of_z}
 use Rattle.exports.proofs.StoreLaws.{all_set}
 use borrow.Author.Rules.{rules}
-use Rattle.exports.proofs.storing.store_costs.Statement.{statement}
-use Rattle.exports.proofs.storing.store_costs.Tie as tie
+use Rattle.exports.proofs.storing.store_costs.Goals as goal
 
-returns : tie.Need-returns
+pub returns : goal.returns
 returns c =
     let a = c.args in
     let f = c.ranges in
     rw (to_z-of_z f.kept, to_z-of_z f.bound, to_z-of_z f.cost, to_z-of_z f.gap)
     (all_set (a.kept ∷ a.bound ∷ a.cost ∷ a.gap ∷ []) a.lent.now c.requires)
-
-pub store_costs_spec : {M : Type 1} → statement M
-store_costs_spec =
-    tie.close
-    (tie.spec
-    (λ c. search rules)
-    (λ c. search rules)
-    (λ c. search rules)
-    (λ c. search rules)
-    (λ c. search rules)
-    returns)
