@@ -1,189 +1,209 @@
 // Whole runs of the program, each under a heading. The files with a number are runs of an independent implementation.
 #![tactic(auto)]
 
-use libc::STDOUT_FILENO;
 use messages::{Answer, Report};
+use std::fs::{self, Files};
+use std::io::{self, Print, Write};
 
-fn heading(name: &[u8]) {
-    io::write_all(STDOUT_FILENO, b"-- ");
-    io::write_all(STDOUT_FILENO, name);
-    io::write_all(STDOUT_FILENO, b"\n");
+fn heading<R: Print>(rt: &R, name: &str) -> io::Result<()> {
+    println!(rt; "-- {name}")
 }
 
-// The program, with its records from a file.
-fn run_files(sheet_name: &[u8], records_name: &[u8]) {
-    let records = os::open_read(records_name);
-    terminal::run(sheet_name, records);
-    libc::close(records);
+// The program, with its records from a file; without one where it is missing.
+fn run_files<R: Files + Print>(rt: &R, sheet_name: &str, records_name: &str) -> io::Result<()> {
+    match fs::open(rt, records_name) {
+        Ok(mut records) => terminal::run(rt, sheet_name, &mut records),
+        Err(_) => terminal::run(rt, sheet_name, &mut io::empty()),
+    }
 }
 
-fn show_files(name: &[u8], sheet_name: &[u8], records_name: &[u8]) {
-    heading(name);
-    run_files(sheet_name, records_name);
+fn show_files<R: Files + Print>(
+    rt: &R,
+    name: &str,
+    sheet_name: &str,
+    records_name: &str,
+) -> io::Result<()> {
+    heading(rt, name)?;
+    run_files(rt, sheet_name, records_name)
 }
 
-fn kept_cases() {
-    show_files(b"the sample", b"sample.sheet", b"sample.records");
-    show_files(b"none kept", b"0012.sheet", b"0012.records");
-    show_files(b"below 0", b"0053.sheet", b"0053.records");
-    show_files(b"the trailer alone", b"0073.sheet", b"0073.records");
-    show_files(b"8,192 records", b"0026.sheet", b"0026.records");
+fn kept_cases<R: Files + Print>(rt: &R) -> io::Result<()> {
+    show_files(rt, "the sample", "sample.sheet", "sample.records")?;
+    show_files(rt, "none kept", "0012.sheet", "0012.records")?;
+    show_files(rt, "below 0", "0053.sheet", "0053.records")?;
+    show_files(rt, "the trailer alone", "0073.sheet", "0073.records")?;
+    show_files(rt, "8,192 records", "0026.sheet", "0026.records")
 }
 
-fn stopped_cases() {
-    show_files(b"stopped, none kept", b"0010.sheet", b"0010.records");
-    show_files(b"stopped, one kept", b"0068.sheet", b"0068.records");
-    show_files(b"stopped, no nodes", b"0016.sheet", b"0016.records");
-    show_files(b"stopped by a cost", b"0047.sheet", b"0047.records");
+fn stopped_cases<R: Files + Print>(rt: &R) -> io::Result<()> {
+    show_files(rt, "stopped, none kept", "0010.sheet", "0010.records")?;
+    show_files(rt, "stopped, one kept", "0068.sheet", "0068.records")?;
+    show_files(rt, "stopped, no nodes", "0016.sheet", "0016.records")?;
+    show_files(rt, "stopped by a cost", "0047.sheet", "0047.records")
 }
 
-fn refused_cases() {
-    show_files(b"a part of a record", b"0018.sheet", b"0018.records");
-    show_files(b"no file, no records", b"missing", b"missing");
-    show_files(b"no file", b"missing", b"sample.records");
-    show_files(b"a label", b"0021.sheet", b"0021.records");
+fn refused_cases<R: Files + Print>(rt: &R) -> io::Result<()> {
+    show_files(rt, "a part of a record", "0018.sheet", "0018.records")?;
+    show_files(rt, "no file, no records", "missing", "missing")?;
+    show_files(rt, "no file", "missing", "sample.records")?;
+    show_files(rt, "a label", "0021.sheet", "0021.records")
 }
 
 // Document 01's other cases: share 64 runs, 65 is refused; price 1,000,001; distance 51 for 50.
-fn other_cases() {
-    show_files(b"shares of 64 and 65", b"sample.sheet", b"shares.records");
-    show_files(b"a price of 1,000,001", b"price.sheet", b"sample.records");
-    show_files(b"a distance of 51", b"distance.sheet", b"sample.records");
+fn other_cases<R: Files + Print>(rt: &R) -> io::Result<()> {
+    show_files(rt, "shares of 64 and 65", "sample.sheet", "shares.records")?;
+    show_files(rt, "a price of 1,000,001", "price.sheet", "sample.records")?;
+    show_files(rt, "a distance of 51", "distance.sheet", "sample.records")
 }
 
 // Document 02, wish 1: sheets with the label 255.
-fn vanished_cases() {
+fn vanished_cases<R: Files + Print>(rt: &R) -> io::Result<()> {
     show_files(
-        b"a run of another implementation with nine 255s",
-        b"0039.sheet",
-        b"0039.records",
-    );
+        rt,
+        "a run of another implementation with nine 255s",
+        "0039.sheet",
+        "0039.records",
+    )?;
     show_files(
-        b"two nodes take 255",
-        b"vanished.sheet",
-        b"rounding.records",
-    );
+        rt,
+        "two nodes take 255",
+        "vanished.sheet",
+        "rounding.records",
+    )?;
     show_files(
-        b"stopped by a record at a 255",
-        b"vanished.sheet",
-        b"vanished.records",
-    );
+        rt,
+        "stopped by a record at a 255",
+        "vanished.sheet",
+        "vanished.records",
+    )?;
     show_files(
-        b"255 alone, and no other label",
-        b"vanished-alone.sheet",
-        b"rounding.records",
-    );
+        rt,
+        "255 alone, and no other label",
+        "vanished-alone.sheet",
+        "rounding.records",
+    )?;
     show_files(
-        b"a 255 that is not last",
-        b"vanished-first.sheet",
-        b"rounding.records",
-    );
+        rt,
+        "a 255 that is not last",
+        "vanished-first.sheet",
+        "rounding.records",
+    )
 }
 
 // Document 02, wish 2: edges whose ends have one label.
-fn unusable_cases() {
+fn unusable_cases<R: Files + Print>(rt: &R) -> io::Result<()> {
     show_files(
-        b"the sample and a sixth record",
-        b"sample.sheet",
-        b"sixth.records",
-    );
+        rt,
+        "the sample and a sixth record",
+        "sample.sheet",
+        "sixth.records",
+    )?;
     show_files(
-        b"a run of another implementation with unusable cells",
-        b"unusable-run.sheet",
-        b"unusable-run.records",
-    );
+        rt,
+        "a run of another implementation with unusable cells",
+        "unusable-run.sheet",
+        "unusable-run.records",
+    )?;
     show_files(
-        b"an edge with no usable cell",
-        b"unusable-only.sheet",
-        b"rounding.records",
-    );
+        rt,
+        "an edge with no usable cell",
+        "unusable-only.sheet",
+        "rounding.records",
+    )?;
     show_files(
-        b"the same with a price of 1,000,001",
-        b"unusable-price.sheet",
-        b"rounding.records",
-    );
+        rt,
+        "the same with a price of 1,000,001",
+        "unusable-price.sheet",
+        "rounding.records",
+    )?;
     show_files(
-        b"a second label at one end",
-        b"unusable-one.sheet",
-        b"rounding.records",
-    );
+        rt,
+        "a second label at one end",
+        "unusable-one.sheet",
+        "rounding.records",
+    )?;
     show_files(
-        b"255 alone at both ends",
-        b"vanished-joined.sheet",
-        b"rounding.records",
-    );
+        rt,
+        "255 alone at both ends",
+        "vanished-joined.sheet",
+        "rounding.records",
+    )
 }
 
 // Document 02, wish 3: shares to the nearest. The bound of the first is 5 with halves toward zero, 7 with halves away from it.
-fn share_cases() {
+fn share_cases<R: Files + Print>(rt: &R) -> io::Result<()> {
     show_files(
-        b"halves of 7 and of 5 below 0",
-        b"halves.sheet",
-        b"halves.records",
-    );
+        rt,
+        "halves of 7 and of 5 below 0",
+        "halves.sheet",
+        "halves.records",
+    )?;
     show_files(
-        b"a run of another implementation with shares",
-        b"shares-run.sheet",
-        b"shares-run.records",
-    );
+        rt,
+        "a run of another implementation with shares",
+        "shares-run.sheet",
+        "shares-run.records",
+    )
 }
 
 // Sheets and lists at the limits of their lengths and past them. The lists are roundings, so that one that was cut would
 // be run.
-fn length_cases() {
-    show_files(b"a sheet of 22,096 bytes", b"zeros-22096", b"missing");
-    show_files(b"a sheet of 22,097 bytes", b"zeros-22097", b"missing");
-    show_files(b"a sheet of 22,100 bytes", b"zeros-22100", b"missing");
+fn length_cases<R: Files + Print>(rt: &R) -> io::Result<()> {
+    show_files(rt, "a sheet of 22,096 bytes", "zeros-22096", "missing")?;
+    show_files(rt, "a sheet of 22,097 bytes", "zeros-22097", "missing")?;
+    show_files(rt, "a sheet of 22,100 bytes", "zeros-22100", "missing")?;
     show_files(
-        b"40,960 bytes of records",
-        b"sample.sheet",
-        b"roundings-40960",
-    );
+        rt,
+        "40,960 bytes of records",
+        "sample.sheet",
+        "roundings-40960",
+    )?;
     show_files(
-        b"40,961 bytes of records",
-        b"sample.sheet",
-        b"roundings-40961",
-    );
+        rt,
+        "40,961 bytes of records",
+        "sample.sheet",
+        "roundings-40961",
+    )?;
     show_files(
-        b"40,965 bytes of records",
-        b"sample.sheet",
-        b"roundings-40965",
-    );
-    show_files(b"no file, 40,965 bytes", b"missing", b"roundings-40965");
+        rt,
+        "40,965 bytes of records",
+        "sample.sheet",
+        "roundings-40965",
+    )?;
+    show_files(rt, "no file, 40,965 bytes", "missing", "roundings-40965")
 }
 
-fn show_text(answer: Answer, report: Report) {
+fn show_text<R: Print>(rt: &R, answer: Answer, report: Report) -> io::Result<()> {
     let mut text = [0u8; 256];
     let count = console::compose(answer, report, &mut text);
-    io::write_all(STDOUT_FILENO, &text[..count]);
+    io::writer(rt).write_all(&text[..count])
 }
 
 // Numbers that no run has, and a buffer that is too short.
-fn extreme_cases() {
+fn extreme_cases<R: Print>(rt: &R) -> io::Result<()> {
     let ran = Answer {
         done: usize::MAX,
         stuck: 10,
         refusal: 13,
     };
-    heading(b"the longest text");
-    show_text(ran, Report::Kept(i64::MIN, i64::MAX, -10));
-    heading(b"a report refused");
-    show_text(ran, Report::Refused(14));
+    heading(rt, "the longest text")?;
+    show_text(rt, ran, Report::Kept(i64::MIN, i64::MAX, -10))?;
+    heading(rt, "a report refused")?;
+    show_text(rt, ran, Report::Refused(14))?;
     let mut short = [0u8; 255];
     let count = console::compose(ran, Report::Bound(0), &mut short);
-    heading(b"a buffer of 255 bytes");
-    io::print_decimal(STDOUT_FILENO, count as u64);
-    io::write_all(STDOUT_FILENO, b"\n");
+    heading(rt, "a buffer of 255 bytes")?;
+    println!(rt; "{count}")
 }
 
-fn main() {
-    kept_cases();
-    stopped_cases();
-    refused_cases();
-    other_cases();
-    vanished_cases();
-    unusable_cases();
-    share_cases();
-    length_cases();
-    extreme_cases();
+fn main(rt: HostRuntime) -> io::Result<()> {
+    kept_cases(&rt)?;
+    stopped_cases(&rt)?;
+    refused_cases(&rt)?;
+    other_cases(&rt)?;
+    vanished_cases(&rt)?;
+    unusable_cases(&rt)?;
+    share_cases(&rt)?;
+    length_cases(&rt)?;
+    extreme_cases(&rt)
 }

@@ -2,42 +2,55 @@
 // no contract can say what a file holds.
 #![tactic(auto)]
 
-ghost use Rattle.io.specs.Counts.{IsPrefixLen};
+ghost use Rattle.std.specs.Prelude.{◌≡◌, ◌≤◌, length, take};
 
-use libc::STDOUT_FILENO;
+use std::fs::{self, Files};
+use std::io::{self, Eprint, Print, Read, Write};
+
+// Reads to the buffer's end, the input's or the first read that fails, and answers how many bytes there are.
+pub fn read_full<R: Read>(reader: &mut R, buffer: &mut [u8]) -> usize
+    ensures { (result ≤ length buffer.new) × (result ≡ length (take result buffer.new)) }
+{
+    let mut done = 0;
+    while done < buffer.len() {
+        match reader.read(&mut buffer[done..]) {
+            Ok(0) => break,
+            Ok(n) => done += n,
+            Err(_) => break,
+        }
+    }
+    done
+}
 
 // Reads a file to the buffer's end, and answers how many bytes it has. One that is missing or cannot be read is empty.
-pub fn read_file(name: &[u8], buffer: &mut [u8]) -> usize
-    ensures { IsPrefixLen result buffer.new }
+pub fn read_file<R: Files>(rt: &R, name: &str, buffer: &mut [u8]) -> usize
+    ensures { (result ≤ length buffer.new) × (result ≡ length (take result buffer.new)) }
 {
-    let file = os::open_read(name);
-    if file < 0 {
-        return 0;
+    match fs::open(rt, name) {
+        Ok(mut file) => read_full(&mut file, buffer),
+        Err(_) => 0,
     }
-    let count = io::read_full(file, buffer);
-    libc::close(file);
-    count
 }
 
 // Prints what a sheet and a list of records give.
-pub fn print(sheet: &[u8], records: &[u8]) {
+pub fn print<R: Print>(rt: &R, sheet: &[u8], records: &[u8]) -> io::Result<()> {
     let mut text = [0u8; 256];
     let count = console::answer(sheet, records, &mut text);
-    io::write_all(STDOUT_FILENO, &text[..count]);
+    io::writer(rt).write_all(&text[..count])
 }
 
 // Prints the line of a refusal.
-pub fn print_refusal(file: i32, refusal: u8) {
+pub fn print_refusal<W: Write>(to: &mut W, refusal: u8) -> io::Result<()> {
     let mut text = [0u8; 256];
     let count = console::refusal_text(refusal, &mut text);
-    io::write_all(file, &text[..count]);
+    to.write_all(&text[..count])
 }
 
-// The whole program: the sheet of a file, and the records of a file that is open.
-pub fn run(sheet_name: &[u8], records: i32) {
+// The whole program: the sheet of a file, and the records of a reader.
+pub fn run<R: Files + Print, I: Read>(rt: &R, sheet_name: &str, records: &mut I) -> io::Result<()> {
     let mut sheet = console::sheet_buffer();
-    let bytes = read_file(sheet_name, &mut sheet);
+    let bytes = read_file(rt, sheet_name, &mut sheet);
     let mut list = console::record_buffer();
-    let taken = io::read_full(records, &mut list);
-    print(&sheet[..bytes], &list[..taken]);
+    let taken = read_full(records, &mut list);
+    print(rt, &sheet[..bytes], &list[..taken])
 }
