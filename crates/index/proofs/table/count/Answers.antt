@@ -1,6 +1,5 @@
 -- `count` meets its contract: the length by the stride, rounded up, and at most 65,536.
 use native.Mathlib.Omega.{arith}
-use borrow.Author.Rules.{rules}
 use Rattle.index.proofs.Filling.{counted_none, counted_by, counted_few, counted_most}
 use Rattle.index.proofs.table.count.Goals as goal
 

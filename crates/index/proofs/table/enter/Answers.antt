@@ -3,7 +3,6 @@ use mathlib.Core.Path.{sym, ap, ◌∙◌}
 use Prim.Native.Nat.{ℕ, ◌+◌, ◌*◌}
 use lib.ListN.{set}
 use Rattle.index.proofs.Filling.{entered_in, entered_full, entered_past}
-use borrow.Author.Rules.{rules}
 use Rattle.index.proofs.table.enter.Goals as goal
 
 pub returns-then-many-lt64 : goal.returns-then-many-lt64
