@@ -1,5 +1,5 @@
 -- `price_of` meets its contract.
-use Rattle.std.proofs.Common.{ap, ◌∙◌, w32, to_z, rules}
+use Rattle.std.proofs.Common.{ap, ◌∙◌, w32, to_z}
 use Rattle.integers.proofs.Bits.{same}
 use Rattle.instance.proofs.bytes.price_of.Goals as goal
 

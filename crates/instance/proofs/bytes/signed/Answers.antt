@@ -1,5 +1,5 @@
 -- `signed` meets its contract, by the two halves of a width.
-use Rattle.std.proofs.Common.{ℕ, ◌^◌, pos, ◌-ℤ◌, ap, ◌∙◌, arith, to_z-of_z, w64, rules}
+use Rattle.std.proofs.Common.{ℕ, ◌^◌, pos, ◌-ℤ◌, ap, ◌∙◌, arith, to_z-of_z, w64}
 use Rattle.integers.proofs.Parts.{linear, sub}
 use Rattle.integers.proofs.Bits.{low}
 use Rattle.instance.proofs.Words.{halves}

@@ -1,8 +1,7 @@
 -- `each_usable` meets its contract: each edge is tested, and whether all passed is kept.
-use Rattle.std.proofs.Common.{ℕ, ◌-◌, not, ap, ◌∙◌, arith, rules}
-use Rattle.integers.specs.Checks.{below}
-use Rattle.integers.proofs.Checks.{Folded, folded_none, folded_more, folded_all}
-use Rattle.instance.specs.Sheet.{none_usable, usable_ok}
+use Rattle.std.proofs.Common.{◌-◌, not}
+use Rattle.integers.proofs.Checks.{Folded}
+use Rattle.instance.specs.Sheet.{none_usable}
 use Rattle.instance.proofs.cells.each_usable.Given as goal
 
 abbrev pub invariant-loop-e : goal.invariant-loop-e

@@ -1,5 +1,5 @@
 -- `edge_usable` meets its contract, by the law that an edge has no usable cell only if each end has one label.
-use Rattle.std.proofs.Common.{◌≡◌, ℕ, ◌<◌, Bool, not, ◌||◌, ltb, List, length, sym, refl, ◌∙◌, ap₂, rules, le-ltb, lt-ltb}
+use Rattle.std.proofs.Common.{◌≡◌, ℕ, ◌<◌, Bool, not, ◌||◌, ltb, List, length, sym, refl, ◌∙◌, ap₂, le-ltb, lt-ltb}
 use Rattle.instance.specs.Bytes.{byte}
 use Rattle.integers.proofs.Places.{left_true, right_true}
 use Rattle.instance.specs.Instance.{usable, first}

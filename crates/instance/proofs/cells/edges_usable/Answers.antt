@@ -1,5 +1,5 @@
 -- `edges_usable` meets its contract: an edge between two nodes of two labels has a usable cell.
-use Rattle.std.proofs.Common.{ℕ, ltb, sym, ap, ◌∙◌, rules}
+use Rattle.std.proofs.Common.{ℕ, ltb, sym, ap, ◌∙◌}
 use Rattle.integers.specs.Checks.{below}
 use Rattle.instance.specs.Bytes.{byte}
 use Rattle.instance.proofs.UsableCells.{wide_usable}

@@ -1,5 +1,5 @@
 -- `first_label` meets its contract.
-use Rattle.std.proofs.Common.{◌∙◌, arith, rules}
+use Rattle.std.proofs.Common.{◌∙◌, arith}
 use Rattle.instance.proofs.UsableCells.{start_few, first_inside, first_is}
 use Rattle.instance.proofs.cells.first_label.Goals as goal
 

@@ -1,7 +1,6 @@
 -- `none_single` meets its contract: each degree is tested, and whether all passed is kept.
-use Rattle.std.proofs.Common.{◌-◌, ltb, refl, rules}
-use Rattle.integers.proofs.Checks.{Folded, folded_none, folded_more, folded_all}
-use Rattle.instance.specs.Bytes.{byte}
+use Rattle.std.proofs.Common.{refl}
+use Rattle.integers.proofs.Checks.{folded_none, folded_more, folded_all}
 use Rattle.instance.proofs.cells.none_single.Goals as goal
 
 pub loop-u-preserved : goal.loop-u-preserved

@@ -1,6 +1,6 @@
 -- `none_single` meets its contract: each degree is tested, and whether all passed is kept.
-use Rattle.std.proofs.Common.{◌-◌, ltb, refl, rules}
-use Rattle.integers.proofs.Checks.{Folded, folded_none, folded_more, folded_all}
+use Rattle.std.proofs.Common.{◌-◌, ltb}
+use Rattle.integers.proofs.Checks.{Folded}
 use Rattle.instance.specs.Bytes.{byte}
 use Rattle.instance.proofs.cells.none_single.Given as goal
 

@@ -1,5 +1,5 @@
 -- `edge_bytes` meets its contract: both ends are nodes, and their degrees give the table's size.
-use Rattle.std.proofs.Common.{◌≡◌, ℕ, ◌+◌, ◌*◌, ◌≤◌, List, length, arith, rules}
+use Rattle.std.proofs.Common.{◌≡◌, ℕ, ◌+◌, ◌*◌, ◌≤◌, List, length, arith}
 use Rattle.instance.specs.Bytes.{byte}
 use Rattle.instance.proofs.Shown.{small, ends_inside, low_room, high_room, bytes_is, bytes_small}
 use Rattle.instance.specs.Layout.{EdgeAsked, Small}

@@ -1,5 +1,5 @@
 -- `edge_prices` meets its contract: the stretch lies in the sheet, and is shown where it lies.
-use Rattle.std.proofs.Common.{◌≡◌, ℕ, ◌+◌, ◌-◌, ◌≤◌, List, [], length, take, drop, sym, ◌∙◌, ap₂, arith, Bor, rules}
+use Rattle.std.proofs.Common.{◌≡◌, ℕ, ◌+◌, ◌-◌, ◌≤◌, List, [], length, take, drop, sym, ◌∙◌, ap₂, arith, Bor}
 use Rattle.instance.specs.Layout.{edge_refusal_of, edge_from, edge_bytes, edge_place_of, Shows, EdgeAsked}
 use Rattle.instance.proofs.Shown.{asked_by, edge_in, edge_shown, edge_placed, edge_hidden, edge_unplaced, edge_inside, laid, there, unrefused, small, from_is}
 use Rattle.instance.proofs.edge.edge_prices.Goals as goal

@@ -1,5 +1,5 @@
 -- `edge_refusal` meets its contract.
-use Rattle.std.proofs.Common.{◌∙◌, rules}
+use Rattle.std.proofs.Common.{◌∙◌}
 use Rattle.instance.proofs.Shown.{edge_in}
 use Rattle.instance.proofs.edge.edge_refusal.Goals as goal
 

@@ -1,5 +1,5 @@
 -- `usable` meets its contract, which says the same.
-use Rattle.std.proofs.Common.{Bool, not, ◌||◌, eqb, ap, rules}
+use Rattle.std.proofs.Common.{Bool, not, ◌||◌, eqb, ap}
 use Rattle.instance.specs.Instance.{usable}
 use Rattle.instance.proofs.labels.usable.Goals as goal
 

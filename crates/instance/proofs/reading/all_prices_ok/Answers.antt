@@ -1,5 +1,5 @@
 -- `all_prices_ok` meets its contract: the node prices, and then the edge prices.
-use Rattle.std.proofs.Common.{sym, ◌∙◌, rules}
+use Rattle.std.proofs.Common.{sym, ◌∙◌}
 use Rattle.instance.proofs.Stages.{prices_by}
 use Rattle.instance.proofs.reading.all_prices_ok.Goals as goal
 

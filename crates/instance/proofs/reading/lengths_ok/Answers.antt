@@ -1,5 +1,5 @@
 -- `lengths_ok` meets its contract: one test for each part of the check.
-use Rattle.std.proofs.Common.{ℕ, ◌+◌, ◌*◌, eqb, length, sym, ap, ◌∙◌, rules}
+use Rattle.std.proofs.Common.{ℕ, ◌+◌, ◌*◌, eqb, length, sym, ap, ◌∙◌}
 use Rattle.instance.proofs.Stages.{length_wrong, distance_wrong, lengths_by}
 use Rattle.instance.proofs.reading.lengths_ok.Goals as goal
 

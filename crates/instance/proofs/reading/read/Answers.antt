@@ -1,5 +1,5 @@
 -- `read` meets its contract: the length and the mark.
-use Rattle.std.proofs.Common.{length, sym, ◌∙◌, lit<, rules, le-leb}
+use Rattle.std.proofs.Common.{length, sym, ◌∙◌, lit<, le-leb}
 use borrow.Author.Tests.{lt-leb}
 use Rattle.instance.specs.Sheet.{short_enough, marked, checks, refusal_of}
 use Rattle.instance.specs.Layout.{layout_of}

@@ -1,5 +1,5 @@
 -- `read_counts` meets its contract: the trailer's counts and their limits.
-use Rattle.std.proofs.Common.{◌≡◌, ℕ, List, ◌∙◌, lit<, rules}
+use Rattle.std.proofs.Common.{◌≡◌, ℕ, List, ◌∙◌, lit<}
 use Rattle.instance.specs.Sheet.{instance_of, checks}
 use Rattle.instance.proofs.Stages.{nodes_over, labels_over, edges_over, counts_good, degrees_short, degrees_fit_lem, passed_at, refused_at}
 use Rattle.instance.proofs.reading.read_counts.Goals as goal

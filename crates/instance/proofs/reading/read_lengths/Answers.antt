@@ -1,5 +1,5 @@
 -- `read_lengths` meets its contract: the ends, M, the length and the distances.
-use Rattle.std.proofs.Common.{sym, ◌∙◌, lit<, rules}
+use Rattle.std.proofs.Common.{sym, ◌∙◌, lit<}
 use Rattle.instance.specs.Sheet.{checks}
 use Rattle.instance.proofs.Stages.{sizes, laid, ends_told, ends_good, cells_over, cells_good, passed_at, refused_at}
 use Rattle.instance.proofs.reading.read_lengths.Goals as goal

@@ -1,5 +1,5 @@
 -- `read_sections` meets its contract: the degrees, and room for the ends.
-use Rattle.std.proofs.Common.{◌≡◌, ℕ, ◌≤◌, true, List, ap, ◌∙◌, arith, lit<, rules}
+use Rattle.std.proofs.Common.{◌≡◌, ℕ, ◌≤◌, true, List, ap, ◌∙◌, arith, lit<}
 use Rattle.instance.specs.declared.sections.Degrees.{Degrees}
 use Rattle.instance.specs.Instance.{node_cells}
 use Rattle.instance.specs.Sheet.{instance_of, degrees_ok, checks}
@@ -47,12 +47,15 @@ read_ends-ends-requires c =
 
 pub read_lengths-requires : goal.read_lengths-requires
 read_lengths-requires c =
-    record { begun = record {
+    record {
+      begun = record {
         counted = c.requires;
         small = small (goal.at.read_lengths-requires c).Then-ok;
         begun = degrees_good _ c.read_degrees-degrees.ensures c.if-ok.true;
         room = rw (total (goal.at.read_lengths-requires c).Then-ok) at c.if-sheet-at.false;
-      }; ends_value = c.read_ends-ends.ensures }
+      };
+      ends_value = c.read_ends-ends.ensures;
+    }
 
 pub returns-else-sheet-at : goal.returns-else-sheet-at
 unfolding checks

@@ -1,5 +1,5 @@
 -- `read_tables` meets its contract: the last check, and what is described.
-use Rattle.std.proofs.Common.{sym, ◌∙◌, arith, lit<, rules}
+use Rattle.std.proofs.Common.{sym, ◌∙◌, arith, lit<}
 use Rattle.instance.specs.Sheet.{checks}
 use Rattle.instance.proofs.Stages.{all_described, all_passed, passed_at, refused_at, values_room}
 use Rattle.instance.proofs.UsableCells.{usable_asked}

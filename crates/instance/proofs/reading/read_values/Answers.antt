@@ -1,5 +1,5 @@
 -- `read_values` meets its contract: the checks of labels and prices.
-use Rattle.std.proofs.Common.{sym, ◌∙◌, lit<, rules}
+use Rattle.std.proofs.Common.{sym, ◌∙◌, lit<}
 use Rattle.instance.specs.Sheet.{checks}
 use Rattle.instance.proofs.Stages.{labels_asked, values_sizes, values_room, passed_at, refused_at}
 use Rattle.instance.proofs.reading.read_values.Goals as goal

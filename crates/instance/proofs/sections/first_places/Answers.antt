@@ -1,6 +1,5 @@
 -- `first_places` meets its contract, by the laws of its turns.
-use Rattle.std.proofs.Common.{◌-◌, arith, rules}
-use Rattle.instance.proofs.Turns.{FirstsTurn, firsts_none, firsts_more, firsts_done}
+use Rattle.instance.proofs.Turns.{firsts_none, firsts_more, firsts_done}
 use Rattle.instance.proofs.sections.first_places.Goals as goal
 
 pub loop-u-init : goal.loop-u-init

@@ -1,6 +1,6 @@
 -- `first_places` meets its contract, by the laws of its turns.
-use Rattle.std.proofs.Common.{◌-◌, arith, rules}
-use Rattle.instance.proofs.Turns.{FirstsTurn, firsts_none, firsts_more, firsts_done}
+use Rattle.std.proofs.Common.{◌-◌}
+use Rattle.instance.proofs.Turns.{FirstsTurn}
 use Rattle.instance.proofs.sections.first_places.Given as goal
 
 abbrev pub invariant-loop-u : goal.invariant-loop-u

@@ -1,5 +1,4 @@
 -- `label_ok` meets its contract, which says the same.
-use Rattle.std.proofs.Common.{rules}
 use Rattle.instance.proofs.sections.label_ok.Goals as goal
 
 pub returns : goal.returns

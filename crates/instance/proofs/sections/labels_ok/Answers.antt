@@ -1,7 +1,6 @@
 -- `labels_ok` meets its contract: each label is tested, and whether all passed is kept.
-use Rattle.std.proofs.Common.{◌-◌, arith, rules}
-use Rattle.integers.proofs.Checks.{Folded, folded_none, folded_more, folded_all}
-use Rattle.instance.specs.Passes.{place_ok}
+use Rattle.std.proofs.Common.{arith}
+use Rattle.integers.proofs.Checks.{folded_none, folded_more, folded_all}
 use Rattle.instance.proofs.Turns.{labels_after, labels_room, label_by_lem, labels_done}
 use Rattle.instance.proofs.sections.labels_ok.Goals as goal
 

@@ -1,6 +1,6 @@
 -- `mark_at` meets its contract: each byte is tested in turn.
-use Rattle.std.proofs.Common.{◌-◌, sym, arith, eq-eqb, ne_eqb}
-use Rattle.integers.proofs.Checks.{Tested, tested_none, tested_more, tested_all, below_fails}
+use Rattle.std.proofs.Common.{sym, eq-eqb, ne_eqb}
+use Rattle.integers.proofs.Checks.{tested_none, tested_more, tested_all, below_fails}
 use Rattle.instance.specs.Sheet.{mark_byte, mark_at}
 use Rattle.instance.proofs.sections.mark_at.Goals as goal
 

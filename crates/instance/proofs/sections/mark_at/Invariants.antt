@@ -1,7 +1,7 @@
 -- `mark_at` meets its contract: each byte is tested in turn.
-use Rattle.std.proofs.Common.{◌-◌, sym, arith, eq-eqb, ne_eqb}
-use Rattle.integers.proofs.Checks.{Tested, tested_none, tested_more, tested_all, below_fails}
-use Rattle.instance.specs.Sheet.{mark_byte, mark_at}
+use Rattle.std.proofs.Common.{◌-◌}
+use Rattle.integers.proofs.Checks.{Tested}
+use Rattle.instance.specs.Sheet.{mark_byte}
 use Rattle.instance.proofs.sections.mark_at.Given as goal
 
 abbrev pub invariant-loop-i : goal.invariant-loop-i

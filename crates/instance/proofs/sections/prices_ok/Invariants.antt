@@ -1,7 +1,6 @@
 -- `prices_ok` meets its contract: each price is tested, and whether all passed is kept.
-use Rattle.std.proofs.Common.{ℕ, ◌-◌, ap, ◌∙◌, arith, w32, to_z, rules}
-use Rattle.integers.specs.Checks.{within}
-use Rattle.integers.proofs.Checks.{Folded, folded_none, folded_more, folded_all}
+use Rattle.std.proofs.Common.{◌-◌}
+use Rattle.integers.proofs.Checks.{Folded}
 use Rattle.instance.specs.Passes.{price_ok}
 use Rattle.instance.proofs.sections.prices_ok.Given as goal
 

@@ -1,6 +1,6 @@
 -- `read_degrees` meets its contract, by the laws of its turns.
-use Rattle.std.proofs.Common.{◌-◌, ◌∙◌, arith, rules}
-use Rattle.instance.proofs.Turns.{DegreesTurn, degrees_none, degrees_bad, degree_low, degree_high, degrees_more, degrees_done}
+use Rattle.std.proofs.Common.{◌-◌}
+use Rattle.instance.proofs.Turns.{DegreesTurn}
 use Rattle.instance.proofs.sections.read_degrees.Given as goal
 
 abbrev pub invariant-loop-u : goal.invariant-loop-u

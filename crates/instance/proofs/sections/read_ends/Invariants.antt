@@ -1,7 +1,6 @@
 -- `read_ends` meets its contract, by the laws of its turns.
-use Rattle.std.proofs.Common.{◌≡◌, ℕ, ◌+◌, ◌-◌, ◌*◌, ◌<◌, ◌≤◌, ◌∙◌, arith, rules}
-use Rattle.instance.specs.Bytes.{byte}
-use Rattle.instance.proofs.Turns.{EndsTurn, ends_none, ends_bad, end_level, end_past, end_falls, size_small, ends_more, ends_done}
+use Rattle.std.proofs.Common.{◌-◌}
+use Rattle.instance.proofs.Turns.{EndsTurn}
 use Rattle.instance.proofs.sections.read_ends.Given as goal
 
 abbrev pub invariant-loop-e : goal.invariant-loop-e
