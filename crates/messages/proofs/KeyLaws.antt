@@ -1,6 +1,6 @@
 -- The keys of a node's positions: node costs, and the rows of its edges to lower nodes added one after another.
 -- Assumes nothing.
-use Rattle.std.proofs.Common.{◌≡◌, ℕ, zero, suc, ◌+◌, ◌-◌, ◌*◌, ◌^◌, ◌<◌, ◌≤◌, eqb, ltb, List, [], ◌∷◌, ◌++◌, map, length, get_or, take, drop, set, replicate, ℤ, pos, ◌+ℤ◌, nat_abs, sym, refl, ap, ◌∙◌, subst, ap₂, not-suc-le-zero, add_assoc, mul_comm, mul-le-mul_left, mul-suc, add-one, arith, get_or-drop, get_or-take, ext_get_or, ltb-false, ltb-true, le-ltb, lt-ltb}
+use Rattle.std.proofs.Common.{◌≡◌, ℕ, zero, suc, ◌+◌, ◌*◌, ◌^◌, ◌<◌, ◌≤◌, eqb, ltb, List, [], ◌∷◌, ◌++◌, map, length, get_or, take, drop, set, replicate, ℤ, pos, ◌+ℤ◌, nat_abs, sym, refl, ap, ◌∙◌, subst, ap₂, not-suc-le-zero, add_assoc, mul_comm, mul-le-mul_left, mul-suc, add-one, arith, get_or-drop, get_or-take, ext_get_or, ltb-false, ltb-true, le-ltb, lt-ltb}
 use mathlib.Core.List.{map-append}
 use lib.ListN.{length-replicate, get_or-replicate, get_or-eq_default}
 use Rattle.integers.specs.Sum.{Within}

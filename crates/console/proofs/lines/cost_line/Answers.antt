@@ -4,9 +4,6 @@ use mathlib.Core.Path.{ap}
 use mir.Facts.{to_z-of_z}
 use Rattle.console.specs.Decimal.{signed}
 use Rattle.console.proofs.PutLaws.{put_as, put_line}
-use borrow.Author.Rules.{rules}
-use Rattle.console.proofs.text.put.Reads as put_reads
-use Rattle.console.proofs.text.put_signed.Reads as put-signed-reads
 use Rattle.console.proofs.lines.cost_line.Goals as goal
 
 pub returns : goal.returns

@@ -3,9 +3,6 @@
 use native.Mathlib.Omega.{arith}
 use Rattle.console.proofs.DecimalLaws.{length_word}
 use Rattle.console.proofs.PutLaws.{put_line}
-use borrow.Author.Rules.{rules}
-use Rattle.console.proofs.text.put.Reads as put_reads
-use Rattle.console.proofs.text.put_decimal.Reads as put-decimal-reads
 use Rattle.console.proofs.lines.count_line.Goals as goal
 
 pub put_decimal-end-requires : goal.put_decimal-end-requires

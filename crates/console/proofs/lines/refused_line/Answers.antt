@@ -1,8 +1,6 @@
 -- `refused_line` meets its contract.
 -- Assumes nothing.
 use Rattle.console.specs.Lines.{refused_line}
-use borrow.Author.Rules.{rules}
-use Rattle.console.proofs.lines.count_line.Reads as count-line-reads
 use Rattle.console.proofs.lines.refused_line.Goals as goal
 
 pub returns : goal.returns

@@ -5,10 +5,6 @@ use Rattle.integers.proofs.Places.{if-true, if-false}
 use Rattle.messages.specs.Answers.{reported_as}
 use Rattle.console.specs.Lines.{refused_line, report_text, text_of}
 use Rattle.console.proofs.PutLaws.{put_out, out_short, out_as}
-use borrow.Author.Rules.{rules}
-use Rattle.console.proofs.lines.refused_line.Reads as refused-line-reads
-use Rattle.console.proofs.printing.at_records.Reads as at-records-reads
-use Rattle.console.proofs.printing.report_text.Reads as report-text-reads
 use Rattle.console.proofs.printing.compose.Goals as goal
 
 pub returns-then-out-lt-ROOM : goal.returns-then-out-lt-ROOM

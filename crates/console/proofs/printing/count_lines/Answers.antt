@@ -3,8 +3,6 @@
 use native.Mathlib.Omega.{arith}
 use Rattle.console.specs.Lines.{count_lines}
 use Rattle.console.proofs.PutLaws.{put_then}
-use borrow.Author.Rules.{rules}
-use Rattle.console.proofs.lines.count_line.Reads as count-line-reads
 use Rattle.console.proofs.printing.count_lines.Goals as goal
 
 pub returns : goal.returns

@@ -8,8 +8,6 @@ use Rattle.console.specs.Ascii.{ascii}
 use Rattle.console.specs.Decimal.{signed}
 use Rattle.console.specs.Lines.{line, kept_lines}
 use Rattle.console.proofs.PutLaws.{put_as, put_then}
-use borrow.Author.Rules.{rules}
-use Rattle.console.proofs.lines.cost_line.Reads as cost-line-reads
 use Rattle.console.proofs.printing.kept_lines.Goals as goal
 
 pub returns : goal.returns

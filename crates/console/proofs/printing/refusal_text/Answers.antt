@@ -2,8 +2,6 @@
 -- Assumes nothing.
 use Rattle.console.specs.Lines.{refused_line}
 use Rattle.console.proofs.PutLaws.{put_out, out_short}
-use borrow.Author.Rules.{rules}
-use Rattle.console.proofs.lines.refused_line.Reads as refused-line-reads
 use Rattle.console.proofs.printing.refusal_text.Goals as goal
 
 pub returns-then-out-lt-ROOM : goal.returns-then-out-lt-ROOM

@@ -3,17 +3,12 @@
 use Rattle.std.proofs.Common.{SFits, to_z-of_z, w64}
 use mathlib.Core.Path.{sym, ap}
 use native.Mathlib.Omega.{arith}
-use Rattle.integers.proofs.Bits.{same}
 use Rattle.messages.specs.declared.answers.Report.{Report}
 use Rattle.messages.specs.Answers.{reported_as}
 use Rattle.console.specs.Lines.{kept_lines, report_text}
 use Rattle.console.proofs.PutLaws.{put_as, put_then}
 use Rattle.console.proofs.ReportLaws.{not_kept}
 use borrow.Author.Rules.{rules}
-use Rattle.console.proofs.printing.count_lines.Reads as count-lines-reads
-use Rattle.console.proofs.printing.kept_lines.Reads as kept-lines-reads
-use Rattle.console.proofs.printing.stop_line.Reads as stop-line-reads
-use Rattle.console.proofs.printing.unkept_text.Reads as unkept-text-reads
 use Rattle.console.proofs.printing.report_text.Goals as goal
 
 pub unkept_text-requires : goal.unkept_text-requires

@@ -3,8 +3,6 @@
 use borrow.Author.Tests.{eq-eqb, ne_eqb}
 use Rattle.console.specs.Lines.{stop_line}
 use Rattle.console.proofs.PutLaws.{put_none}
-use borrow.Author.Rules.{rules}
-use Rattle.console.proofs.lines.refused_line.Reads as refused-line-reads
 use Rattle.console.proofs.printing.stop_line.Goals as goal
 
 pub returns-then-refusal-eq-NONE : goal.returns-then-refusal-eq-NONE

@@ -3,18 +3,12 @@
 use Rattle.std.proofs.Common.{to_z-of_z, w64}
 use mathlib.Core.Path.{sym, ap, ◌∙◌}
 use native.Mathlib.Omega.{arith}
-use Rattle.integers.proofs.Bits.{same}
 use Rattle.messages.specs.declared.answers.Report.{Report}
 use Rattle.messages.specs.Answers.{reported_as}
 use Rattle.console.specs.Lines.{refused_line, bound_lines, report_text}
 use Rattle.console.proofs.PutLaws.{put_as, put_then}
 use Rattle.console.proofs.ReportLaws.{refused_text}
 use borrow.Author.Rules.{rules}
-use Rattle.console.proofs.lines.refused_line.Reads as refused-line-reads
-use Rattle.console.proofs.printing.bound_lines.Reads as bound-lines-reads
-use Rattle.console.proofs.printing.count_lines.Reads as count-lines-reads
-use Rattle.console.proofs.printing.refusal_of.Reads as refusal-of-reads
-use Rattle.console.proofs.printing.stop_line.Reads as stop-line-reads
 use Rattle.console.proofs.printing.unkept_text.Goals as goal
 
 pub returns-in_default : goal.returns-in_default

@@ -6,8 +6,6 @@ use lib.IntN.{pos}
 use Rattle.instance.proofs.LaidOut.{Few, few}
 use Rattle.messages.specs.Lent.{lent}
 use Rattle.console.proofs.ProgramLaws.{part_length, parts_sized}
-use Rattle.console.proofs.program.answer_in.Reads as answer-in-reads
-use Rattle.instance.proofs.read.Reads as read-reads
 use Rattle.console.proofs.program.answer.Goals as goal
 use Rattle.console.proofs.program.answer.Goals.{After-read-layout}
 

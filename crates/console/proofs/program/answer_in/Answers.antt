@@ -12,11 +12,6 @@ use Rattle.messages.specs.Answers.{ran_as}
 use Rattle.console.proofs.PutLaws.{out_as}
 use Rattle.console.proofs.ProgramLaws.{open_refusal_lem, open_leaves, printed_refused, printed_long, printed_ran}
 use native.Mathlib.Omega.{arith}
-use Rattle.console.proofs.printing.compose.Reads as compose-reads
-use Rattle.console.proofs.printing.refusal_text.Reads as refusal-text-reads
-use Rattle.messages.proofs.run.Reads as run-reads
-use Rattle.messages.proofs.open.Reads as open-reads
-use Rattle.messages.proofs.report.Reads as report-reads
 use Rattle.console.proofs.program.answer_in.Goals as goal
 use Rattle.console.proofs.program.answer_in.Goals.{After-open-refusal, Start}
 
@@ -59,4 +54,3 @@ returns c =
     out_as (start p).args.out.now
     (printed_ran (sheet p) (start p).args.records.now e (omega (arith, c.if-records-gt-MOST_BYTES.false)) f c.report-told.ensures)
     c.compose.ensures
-

@@ -1,8 +1,6 @@
 -- `put_decimal` meets its contract: the digits of n / 10, and then the last.
 -- Assumes nothing.
-use Rattle.std.proofs.Common.{◌≡◌, ℕ, ◌+◌, ◌/◌, ◌%◌, ◌≤◌, ◌<◌, length, arith}
-use Rattle.console.specs.Decimal.{decimal}
-use Rattle.console.specs.Output.{Put}
+use Rattle.std.proofs.Common.{◌≡◌, ℕ, ◌+◌, ◌%◌, ◌<◌, length, arith}
 use Rattle.console.proofs.DecimalLaws.{decimal_digit, decimal_more, digit_length, more_length}
 use Rattle.console.proofs.PutLaws.{put_byte, put_then, put_length}
 use Rattle.console.proofs.text.+put_decimal.Goals as goal

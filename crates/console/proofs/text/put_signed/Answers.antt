@@ -5,7 +5,7 @@ use mathlib.Core.List.{◌∷◌}
 use Prim.Native.Nat.{ℕ, ◌≤◌}
 use native.Mathlib.Omega.{arith}
 use lib.ListN.{length, length-set}
-use lib.IntN.{ℤ, pos, nat_abs}
+use lib.IntN.{pos, nat_abs}
 use lib.Signed.{◌≤ℤ◌, ◌<ℤ◌}
 use mir.Facts.{to_z-of_z}
 use Rattle.integers.proofs.Parts.{linear}
@@ -13,9 +13,6 @@ use Rattle.integers.proofs.Bits.{read}
 use Rattle.console.specs.Decimal.{decimal, signed}
 use Rattle.console.proofs.DecimalLaws.{length_magnitude, signed_below, signed_above}
 use Rattle.console.proofs.PutLaws.{put_as, put_byte, put_then}
-use borrow.Author.Rules.{rules}
-use Rattle.console.proofs.text.magnitude.Reads as magnitude-reads
-use Rattle.console.proofs.text.put_decimal.Reads as put-decimal-reads
 use Rattle.console.proofs.text.put_signed.Goals as goal
 use Rattle.console.proofs.text.put_signed.Goals.{After-magnitude, After-magnitude-2, After-slice_known-2-1, After-slice_known-then-z-lt0-1, Start}
 

@@ -1,5 +1,4 @@
 -- `cirbaldu_place` meets its contract: it is that of the call.
-use borrow.Author.Rules.{rules}
 use Rattle.exports.proofs.matching.cirbaldu_place.Goals as goal
 
 pub returns : goal.returns

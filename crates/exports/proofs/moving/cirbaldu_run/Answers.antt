@@ -4,7 +4,6 @@ use Rattle.instance.proofs.LaidOut.{refusal_is}
 use Rattle.messages.specs.Lent.{lent}
 use Rattle.exports.specs.Stored.{unlent}
 use Rattle.exports.proofs.AnswerLaws.{ran_by, ran_ill}
-use borrow.Author.Rules.{rules}
 use Rattle.exports.proofs.moving.cirbaldu_run.Goals as goal
 
 pub returns-then-counts-ne2 : goal.returns-then-counts-ne2

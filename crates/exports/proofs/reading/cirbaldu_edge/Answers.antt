@@ -4,7 +4,6 @@ use Rattle.instance.specs.Layout.{EdgeAsked, edge_refusal_of}
 use Rattle.instance.proofs.Shown.{edge_in, asked_by, unrefused}
 use Rattle.exports.specs.Stored.{unlent}
 use Rattle.exports.proofs.ShowLaws.{span_hidden, shown_by, shown_ill}
-use borrow.Author.Rules.{rules}
 use Rattle.exports.proofs.reading.cirbaldu_edge.Goals as goal
 use Rattle.exports.proofs.reading.cirbaldu_edge.Goals.{After-edge_refusal_in-refusal, Start, Then-refusal-eq-NONE}
 

@@ -13,7 +13,6 @@ use Rattle.exports.specs.Reading.{numbers_of}
 use Rattle.exports.proofs.ReadLaws.{starts_long, tables_long, counts_long, numbers_by}
 use Rattle.exports.proofs.StoreLaws.{second_long, third_long, all_put}
 use Rattle.exports.proofs.AnswerLaws.{read_by, read_ill}
-use borrow.Author.Rules.{rules}
 use Rattle.exports.proofs.reading.cirbaldu_read.Goals as goal
 use Rattle.exports.proofs.reading.cirbaldu_read.Goals.{After-copy, After-copy_counts, Start}
 

@@ -3,7 +3,6 @@ use mathlib.Core.Path.{ap, ◌∙◌}
 use mathlib.Core.List.{[], ◌∷◌}
 use Prim.Native.Nat.{ℕ}
 use Rattle.exports.specs.Reading.{counts_of}
-use borrow.Author.Rules.{rules}
 use Rattle.exports.proofs.reading.copy_counts.Goals as goal
 
 pub returns : goal.returns

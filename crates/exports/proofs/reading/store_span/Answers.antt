@@ -7,7 +7,6 @@ use Rattle.instance.specs.Instance.{table}
 use Rattle.instance.specs.Sheet.{instance_of}
 use Rattle.instance.proofs.LaidOut.{LaidOut}
 use Rattle.exports.proofs.ShowLaws.{TableEnds, table_in_lem, known, sized, span_by}
-use borrow.Author.Rules.{rules}
 use Rattle.exports.proofs.reading.store_span.Goals as goal
 use Rattle.exports.proofs.reading.store_span.Goals.{After-table_at-to, Start}
 

@@ -1,11 +1,10 @@
 -- `copy` meets its contract.
-use Prim.Native.Nat.{ℕ, ◌-◌}
+use Prim.Native.Nat.{ℕ}
 use native.Mathlib.Omega.{arith}
 use mathlib.Core.Path.{ap, ◌∙◌}
-use borrow.Author.Rules.{rules}
-use lib.ListN.{length, get_or}
+use lib.ListN.{get_or}
 use Rattle.integers.specs.Places.{tabulate}
-use Rattle.integers.proofs.Filling.{Filling, fill_none, fill_more, fill_all}
+use Rattle.integers.proofs.Filling.{fill_none, fill_more, fill_all}
 use Rattle.exports.proofs.StoreLaws.{tabulate_each}
 use Rattle.exports.proofs.storing.copy.Goals as goal
 

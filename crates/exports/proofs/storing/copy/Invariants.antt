@@ -1,12 +1,7 @@
 -- `copy` meets its contract.
-use Prim.Native.Nat.{ℕ, ◌-◌}
-use native.Mathlib.Omega.{arith}
-use mathlib.Core.Path.{ap, ◌∙◌}
-use borrow.Author.Rules.{rules}
+use Prim.Native.Nat.{◌-◌}
 use lib.ListN.{length, get_or}
-use Rattle.integers.specs.Places.{tabulate}
-use Rattle.integers.proofs.Filling.{Filling, fill_none, fill_more, fill_all}
-use Rattle.exports.proofs.StoreLaws.{tabulate_each}
+use Rattle.integers.proofs.Filling.{Filling}
 use Rattle.exports.proofs.storing.copy.Given as goal
 
 abbrev pub invariant-loop-i : goal.invariant-loop-i

@@ -2,7 +2,6 @@
 use mathlib.Core.List.{[], ◌∷◌}
 use mir.Facts.{to_z-of_z}
 use Rattle.exports.proofs.StoreLaws.{all_set}
-use borrow.Author.Rules.{rules}
 use Rattle.exports.proofs.storing.store_costs.Goals as goal
 
 pub returns : goal.returns

@@ -1,5 +1,4 @@
 -- `cirbaldu_sweep` meets its contract: it is that of the call.
-use borrow.Author.Rules.{rules}
 use Rattle.exports.proofs.sweeping.cirbaldu_sweep.Goals as goal
 
 pub returns : goal.returns

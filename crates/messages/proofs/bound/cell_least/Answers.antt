@@ -1,5 +1,5 @@
 -- `cell_least` meets its contract: the labels of both ends are parts of the sheet.
-use Rattle.std.proofs.Common.{◌≡◌, ℕ, ◌<◌, true, List, sym, ap, ◌∙◌, subst, ap₂, arith, rules}
+use Rattle.std.proofs.Common.{◌≡◌, ℕ, ◌<◌, true, List, sym, ap, ◌∙◌, subst, ap₂, arith}
 use Rattle.integers.specs.Least.{least_of}
 use Rattle.integers.proofs.Bits.{answer}
 use Rattle.instance.specs.Instance.{Instance}
@@ -55,8 +55,11 @@ labels_of-high-requires c =
 pub usable_least-requires : goal.usable_least-requires
 usable_least-requires c =
     let q = start (p c) in
-    let l = q.args.cells.now in record { ends = subst (λ (x : List ℕ). Ends true x c.labels_of-high.result.now l) (sym (low_is c))
-          (subst (λ (x : List ℕ). Ends true (labels_of (s (p c)) ((I (p c)).low q.args.e)) x l) (sym (high_is c)) (ends_of (s (p c)) q.requires.viewed.0.readable (edge (p c)) l q.requires.fits.size true)); within = q.requires.fits.range }
+    let l = q.args.cells.now in record {
+      ends = subst (λ (x : List ℕ). Ends true x c.labels_of-high.result.now l) (sym (low_is c))
+          (subst (λ (x : List ℕ). Ends true (labels_of (s (p c)) ((I (p c)).low q.args.e)) x l) (sym (high_is c)) (ends_of (s (p c)) q.requires.viewed.0.readable (edge (p c)) l q.requires.fits.size true));
+      within = q.requires.fits.range;
+    }
 
 pub returns : goal.returns
 returns c =

@@ -1,5 +1,5 @@
 -- `edge_sum` meets its contract: one table after another.
-use Rattle.std.proofs.Common.{◌≡◌, ℕ, ◌+◌, ◌-◌, ◌≤◌, true, List, length, get_or, ℤ, pos, nat_abs, ap, arith, w64, to_z, of_z, rules}
+use Rattle.std.proofs.Common.{◌≡◌, ℕ, ◌+◌, ◌-◌, ◌≤◌, true, List, length, get_or, ℤ, pos, nat_abs, ap, arith, w64, to_z, of_z}
 use Rattle.integers.specs.Least.{least_of}
 use Rattle.integers.specs.Rows.{part}
 use Rattle.integers.proofs.Bits.{answer}
@@ -10,10 +10,9 @@ use Rattle.rules.specs.Calls.{cost_limit}
 use Rattle.messages.specs.Lent.{Fits}
 use Rattle.messages.specs.Seen.{labels_of}
 use Rattle.messages.specs.EdgeMessage.{usable_of, usable_cells}
-use Rattle.messages.specs.Bounds.{table_least}
 use Rattle.messages.proofs.RowLaws.{least_of_within}
 use Rattle.messages.proofs.SheetLaws.{edges_few_lem}
-use Rattle.messages.proofs.SumLaws.{Summed, summed_none, part_inside, part_is, part_length, part_range, summed_fits, summed_more, added_all}
+use Rattle.messages.proofs.SumLaws.{summed_none, part_inside, part_is, part_length, part_range, summed_fits, summed_more, added_all}
 use Rattle.messages.proofs.BoundLaws.{edge_parts}
 use Rattle.messages.proofs.bound.edge_sum.Goals as goal
 use Rattle.messages.proofs.bound.edge_sum.Goals.{After-cell_least, After-size_of, At-loop-e, Start}

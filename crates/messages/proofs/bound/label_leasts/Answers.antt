@@ -1,5 +1,5 @@
 -- `label_leasts` meets its contract: the places are gone through, each label's least kept in its place.
-use Rattle.std.proofs.Common.{◌≡◌, ◌-◌, ◌≤◌, length, get_or, pos, ap, ◌∙◌, ap₂, arith, rules}
+use Rattle.std.proofs.Common.{◌≡◌, length, get_or, pos, ap, ◌∙◌, ap₂, arith}
 use Rattle.integers.specs.Least.{min_ℤ}
 use Rattle.integers.proofs.Bits.{same}
 use Rattle.instance.specs.Sheet.{instance_of}

@@ -1,10 +1,7 @@
 -- `label_leasts` meets its contract: the places are gone through, each label's least kept in its place.
-use Rattle.std.proofs.Common.{◌≡◌, ◌-◌, ◌≤◌, length, get_or, pos, ap, ◌∙◌, ap₂, arith, rules}
-use Rattle.integers.specs.Least.{min_ℤ}
-use Rattle.integers.proofs.Bits.{same}
+use Rattle.std.proofs.Common.{◌≡◌, ◌-◌, ◌≤◌, length}
 use Rattle.instance.specs.Sheet.{instance_of}
 use Rattle.messages.specs.Bounds.{least_labels}
-use Rattle.messages.proofs.LabelLaws.{leasts_none, leasts_turn}
 use Rattle.messages.proofs.bound.label_leasts.Given as goal
 
 abbrev pub invariant-loop-i : goal.invariant-loop-i

@@ -1,8 +1,7 @@
 -- `label_sum` meets its contract.
-use Rattle.std.proofs.Common.{◌-◌, ◌≤◌, get_or, pos, refl, ◌∙◌, arith, w64, to_z}
-use Rattle.integers.proofs.Bits.{same}
+use Rattle.std.proofs.Common.{◌-◌, ◌≤◌, get_or, pos}
 use Rattle.rules.specs.Calls.{cost_limit}
-use Rattle.messages.proofs.SumLaws.{Added, added_none, added_fits, added_more, added_all}
+use Rattle.messages.proofs.SumLaws.{Added}
 use Rattle.messages.proofs.bound.label_sum.Given as goal
 
 abbrev pub invariant-loop-l : goal.invariant-loop-l

@@ -1,5 +1,5 @@
 -- `lower_bound` meets its contract: the three sums are those of the rule, and together they fit.
-use Rattle.std.proofs.Common.{◌+◌, ◌*◌, ◌≤◌, List, get_or, ℤ, pos, ◌+ℤ◌, nat_abs, sym, ap, ◌∙◌, subst, ap₂, arith, rules}
+use Rattle.std.proofs.Common.{◌+◌, ◌*◌, ◌≤◌, List, get_or, ℤ, pos, ◌+ℤ◌, nat_abs, sym, ap, ◌∙◌, subst, ap₂, arith}
 use Rattle.integers.specs.Places.{total}
 use Rattle.integers.proofs.Bits.{same}
 use Rattle.instance.specs.Instance.{node_cells}

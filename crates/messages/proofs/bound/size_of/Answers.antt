@@ -1,5 +1,5 @@
 -- `size_of` meets its contract: a table has a cell for each position of one end and of the other.
-use Rattle.std.proofs.Common.{◌*◌, ap, ◌∙◌, ap₂, mul-le-mul, arith, rules}
+use Rattle.std.proofs.Common.{◌*◌, ap, ◌∙◌, ap₂, mul-le-mul, arith}
 use Rattle.instance.specs.Instance.{Instance, table_size}
 use Rattle.instance.specs.Sheet.{instance_of}
 use Rattle.messages.proofs.bound.size_of.Goals as goal

@@ -1,5 +1,5 @@
 -- `clash` meets its contract: a label whose bit the mask lacks is none of the labels.
-use Rattle.std.proofs.Common.{sym, ap, ◌∙◌, rules}
+use Rattle.std.proofs.Common.{sym, ap, ◌∙◌}
 use lib.Bits.{bit_and}
 use Rattle.messages.proofs.ClashLaws.{masked_out}
 use Rattle.messages.proofs.clash.clash.Goals as goal

@@ -1,5 +1,5 @@
 -- `mask_of` meets its contract: the mask has the bits of the labels so far.
-use Rattle.std.proofs.Common.{ℕ, ◌+◌, ◌-◌, length, sym, subst, arith, rules}
+use Rattle.std.proofs.Common.{ℕ, ◌+◌, sym, subst, arith}
 use lib.Bits.{bit_or}
 use Rattle.messages.proofs.ClashLaws.{Masked, masked_none, masked_more}
 use Rattle.messages.proofs.clash.mask_of.Goals as goal

@@ -1,7 +1,6 @@
 -- `mask_of` meets its contract: the mask has the bits of the labels so far.
-use Rattle.std.proofs.Common.{ℕ, ◌+◌, ◌-◌, length, sym, subst, arith, rules}
-use lib.Bits.{bit_or}
-use Rattle.messages.proofs.ClashLaws.{Masked, masked_none, masked_more}
+use Rattle.std.proofs.Common.{◌-◌, length}
+use Rattle.messages.proofs.ClashLaws.{Masked}
 use Rattle.messages.proofs.clash.mask_of.Given as goal
 
 abbrev pub invariant-loop-p : goal.invariant-loop-p

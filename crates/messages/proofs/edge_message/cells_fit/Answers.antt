@@ -1,5 +1,5 @@
 -- `cells_fit` meets its contract: halves of the limit add up to no more than it, and else each cell is tested.
-use Rattle.std.proofs.Common.{get_or, pos, sym, arith, rules}
+use Rattle.std.proofs.Common.{get_or, pos, sym, arith}
 use Rattle.messages.specs.EdgeMessage.{position_in}
 use Rattle.messages.proofs.ExcessLaws.{halves_fit}
 use Rattle.messages.proofs.edge_message.cells_fit.Goals as goal

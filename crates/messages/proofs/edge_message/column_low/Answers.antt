@@ -1,5 +1,5 @@
 -- `column_low` meets its contract. The loop's invariant: `at` is where the row r has the column, and `best` is its least over the first r rows but for `skip`.
-use Rattle.std.proofs.Common.{◌≡◌, ℕ, ◌+◌, ◌-◌, ◌*◌, ◌<◌, ◌≤◌, List, length, get_or, ℤ, pos, ap, ◌∙◌, ap₂, ⊎_elim, mul-le-mul_right, arith, w64, to_z, rules}
+use Rattle.std.proofs.Common.{◌≡◌, ℕ, ◌+◌, ◌<◌, ◌≤◌, length, get_or, ℤ, pos, ap, ◌∙◌, ap₂, mul-le-mul_right, arith}
 use Rattle.integers.specs.Least.{min_ℤ}
 use Rattle.integers.proofs.Bits.{answer}
 use Rattle.messages.specs.EdgeMessage.{unbounded}
@@ -31,7 +31,7 @@ loop-r-preserved c =
       omega arith,
       omega (arith, c.loop-r.invariant),
       elim c.if-r-skip.branch [
-        then-r-skip w ↦ w.best-is ∙ answer w.less_at-best.type_inv w.less_at-best.ensures ∙ ap₂ (λ (i : ℕ) (b : ℤ). min_ℤ (get_or l i (pos 0)) b) c.loop-r.invariant.1 c.loop-r.invariant.2
+        | then-r-skip w ↦ w.best-is ∙ answer w.less_at-best.type_inv w.less_at-best.ensures ∙ ap₂ (λ (i : ℕ) (b : ℤ). min_ℤ (get_or l i (pos 0)) b) c.loop-r.invariant.1 c.loop-r.invariant.2
             ∙ but_more f unbounded x.skip c.loop-r.r w.if-r-skip.true
         | else-r-skip w ↦ w.best-is ∙ c.loop-r.invariant.2 ∙ but_skipped f unbounded x.skip c.loop-r.r w.if-r-skip.false
       ],

@@ -1,10 +1,7 @@
 -- `column_low` meets its contract. The loop's invariant: `at` is where the row r has the column, and `best` is its least over the first r rows but for `skip`.
-use Rattle.std.proofs.Common.{◌≡◌, ℕ, ◌+◌, ◌-◌, ◌*◌, ◌<◌, ◌≤◌, List, length, get_or, ℤ, pos, ap, ◌∙◌, ap₂, ⊎_elim, mul-le-mul_right, arith, w64, to_z, rules}
-use Rattle.integers.specs.Least.{min_ℤ}
-use Rattle.integers.proofs.Bits.{answer}
+use Rattle.std.proofs.Common.{◌≡◌, ℕ, ◌+◌, ◌-◌, ◌*◌, ◌≤◌, List, get_or, ℤ, pos}
 use Rattle.messages.specs.EdgeMessage.{unbounded}
-use Rattle.messages.proofs.EdgeLaws.{cell_in}
-use Rattle.messages.proofs.UsableLaws.{least_but, but_none, but_skipped, but_more, but_all}
+use Rattle.messages.proofs.UsableLaws.{least_but}
 use Rattle.messages.proofs.edge_message.column_low.Given as goal
 
 -- the column's cell of each row

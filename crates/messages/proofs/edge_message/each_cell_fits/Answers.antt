@@ -1,13 +1,12 @@
 -- `each_cell_fits` meets its contract: what each row gives is joined, so the test at the end is that of each row.
-use Rattle.std.proofs.Common.{◌≡◌, ◌+◌, ◌-◌, ◌*◌, ◌≤◌, List, length, ℤ, sym, ap, ◌∙◌, arith, rules}
+use Rattle.std.proofs.Common.{◌+◌, ◌*◌, ◌≤◌, List, length, ℤ, sym, ap, ◌∙◌, arith}
 use Rattle.integers.specs.Checks.{within}
 use Rattle.integers.specs.Places.{every}
-use Rattle.integers.specs.Rows.{part}
 use Rattle.integers.proofs.Rows.{within_part}
 use Rattle.rules.specs.Calls.{cost_limit}
 use Rattle.messages.specs.EdgeMessage.{moved_line}
 use Rattle.messages.proofs.EdgeLaws.{row_end, row_part, row-length, lines_fit}
-use Rattle.messages.proofs.ExcessLaws.{Joining, joining_none, joining_more, joining_all}
+use Rattle.messages.proofs.ExcessLaws.{joining_none, joining_more, joining_all}
 use Rattle.messages.proofs.edge_message.each_cell_fits.Goals as goal
 use Rattle.messages.proofs.edge_message.each_cell_fits.Goals.{In-loop-k}
 
@@ -22,13 +21,12 @@ excess_line-all-requires c =
     rw (row_part c.requires.shape c.loop-k.k c.loop-k.invariant.0) record { line_len_bound = (omega (arith, c.requires.shape), omega (arith, c.requires.shape)); within = within_part cost_limit (c.loop-k.k * c.args.width) c.args.width c.args.cells.now c.requires.within; within_2 = c.requires.within_2 }
 
 pub loop-k-preserved : goal.loop-k-preserved
-loop-k-preserved c =
-    (
-      omega arith,
-      joining_more c.excess_line-all.result c.loop-k.invariant.1 c.loop-k-test.true
-          (c.excess_line-all.ensures
-          ∙ ap (λ (m : List ℤ). every (within c.args.limit) (moved_line c.args.by_row c.loop-k.k c.args.amounts.now m)) (row_part c.requires.shape c.loop-k.k c.loop-k.invariant.0)),
-    )
+loop-k-preserved c = (
+  omega arith,
+  joining_more c.excess_line-all.result c.loop-k.invariant.1 c.loop-k-test.true
+      (c.excess_line-all.ensures
+      ∙ ap (λ (m : List ℤ). every (within c.args.limit) (moved_line c.args.by_row c.loop-k.k c.args.amounts.now m)) (row_part c.requires.shape c.loop-k.k c.loop-k.invariant.0)),
+)
 
 pub returns : goal.returns
 returns c =

@@ -1,5 +1,5 @@
 -- `edge_amounts` meets its contract: the least of each position, the least of these, and what each gives.
-use Rattle.std.proofs.Common.{◌≡◌, ℕ, ◌≤◌, Bool, List, length, get_or, take, ℤ, pos, sym, ap, ◌∙◌, arith, length-take-le, w64, to_z, of_z, rules}
+use Rattle.std.proofs.Common.{◌≡◌, ℕ, ◌≤◌, Bool, List, length, get_or, take, ℤ, pos, sym, ap, ◌∙◌, arith, length-take-le, w64, to_z, of_z}
 use Rattle.integers.specs.Least.{least_of}
 use Rattle.integers.proofs.Bits.{answer}
 use Rattle.messages.specs.EdgeMessage.{usable_cells, over, least_at, turned_least}

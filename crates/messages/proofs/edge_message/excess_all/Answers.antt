@@ -1,10 +1,10 @@
 -- `excess_all` meets its contract: what each cell gives is joined.
-use Rattle.std.proofs.Common.{◌-◌, length, get_or, ℤ, pos, ◌+ℤ◌, ap, ◌∙◌, to_z-of_z, w64, to_z, of_z, rules}
+use Rattle.std.proofs.Common.{get_or, ℤ, pos, ◌+ℤ◌, ap, ◌∙◌, to_z-of_z, w64, to_z, of_z}
 use Rattle.integers.specs.Checks.{within}
 use Rattle.integers.specs.Places.{every}
 use Rattle.integers.proofs.Bits.{same}
 use Rattle.integers.proofs.Ranges.{shifted}
-use Rattle.messages.proofs.ExcessLaws.{Joining, joining_none, joining_more, joining_shifted}
+use Rattle.messages.proofs.ExcessLaws.{joining_none, joining_more, joining_shifted}
 use Rattle.messages.proofs.edge_message.excess_all.Goals as goal
 
 pub excess_with-all-requires : goal.excess_with-all-requires

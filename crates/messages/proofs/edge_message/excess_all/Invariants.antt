@@ -1,10 +1,7 @@
 -- `excess_all` meets its contract: what each cell gives is joined.
-use Rattle.std.proofs.Common.{◌-◌, length, get_or, ℤ, pos, ◌+ℤ◌, ap, ◌∙◌, to_z-of_z, w64, to_z, of_z, rules}
+use Rattle.std.proofs.Common.{◌-◌, length, get_or, pos, ◌+ℤ◌}
 use Rattle.integers.specs.Checks.{within}
-use Rattle.integers.specs.Places.{every}
-use Rattle.integers.proofs.Bits.{same}
-use Rattle.integers.proofs.Ranges.{shifted}
-use Rattle.messages.proofs.ExcessLaws.{Joining, joining_none, joining_more, joining_shifted}
+use Rattle.messages.proofs.ExcessLaws.{Joining}
 use Rattle.messages.proofs.edge_message.excess_all.Given as goal
 
 abbrev pub invariant-loop-k : goal.invariant-loop-k

@@ -1,8 +1,8 @@
 -- `excess_each` meets its contract: what each cell gives is joined.
-use Rattle.std.proofs.Common.{◌-◌, length, get_or, ℤ, pos, ◌+ℤ◌, ◌∙◌, ap₂, rules}
+use Rattle.std.proofs.Common.{get_or, ℤ, pos, ◌+ℤ◌, ◌∙◌, ap₂}
 use Rattle.integers.specs.Checks.{within}
 use Rattle.integers.proofs.Bits.{same}
-use Rattle.messages.proofs.ExcessLaws.{Joining, joining_none, joining_more, joining_shifted}
+use Rattle.messages.proofs.ExcessLaws.{joining_none, joining_more, joining_shifted}
 use Rattle.messages.proofs.edge_message.excess_each.Goals as goal
 
 pub excess_with-all-requires : goal.excess_with-all-requires

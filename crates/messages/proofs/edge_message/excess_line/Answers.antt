@@ -1,5 +1,5 @@
 -- `excess_line` meets its contract: by rows one amount serves all cells, by columns each has its own.
-use Rattle.std.proofs.Common.{Bool, get_or, ℤ, pos, sym, ap, ◌∙◌, rules}
+use Rattle.std.proofs.Common.{Bool, get_or, ℤ, pos, sym, ap, ◌∙◌}
 use Rattle.integers.specs.Checks.{within}
 use Rattle.integers.specs.Places.{every}
 use Rattle.integers.proofs.Bits.{same}

@@ -1,5 +1,5 @@
 -- `excess_with` meets its contract: a sum of a cost and an amount fits.
-use Rattle.std.proofs.Common.{◌+ℤ◌, ap, ◌∙◌, ap₂, to_z-of_z, rules}
+use Rattle.std.proofs.Common.{◌+ℤ◌, ap, ◌∙◌, ap₂, to_z-of_z}
 use Rattle.integers.specs.Checks.{within}
 use Rattle.integers.proofs.Parts.{linear, add, abs}
 use Rattle.messages.proofs.edge_message.excess_with.Goals as goal

@@ -1,9 +1,9 @@
 -- `least_by` meets its contract. The loop's invariant: the first k places hold the least of those positions, and the others 0.
-use Rattle.std.proofs.Common.{◌≡◌, ℕ, ◌-◌, Bool, cond, List, length, ap, ◌∙◌, ap₂, arith, rules}
+use Rattle.std.proofs.Common.{◌≡◌, ℕ, Bool, cond, List, length, ap, ◌∙◌, ap₂, arith}
 use Rattle.integers.specs.Least.{least_from, without}
 use Rattle.integers.proofs.Bits.{answer}
-use Rattle.messages.specs.EdgeMessage.{line_at, unbounded, least_at}
-use Rattle.messages.proofs.OverLaws.{Overwritten, written_none, written_more, written_all}
+use Rattle.messages.specs.EdgeMessage.{line_at, unbounded}
+use Rattle.messages.proofs.OverLaws.{written_none, written_more, written_all}
 use Rattle.messages.proofs.EdgeLaws.{zeros}
 use Rattle.messages.proofs.UsableLaws.{line_is, own_few, sized}
 use Rattle.messages.proofs.edge_message.least_by.Goals as goal

@@ -1,5 +1,5 @@
 -- `move_line` meets its contract: by rows one amount goes to all cells, by columns each has its own.
-use Rattle.std.proofs.Common.{Bool, get_or, ℤ, pos, sym, ap, ◌∙◌, rules}
+use Rattle.std.proofs.Common.{Bool, get_or, ℤ, pos, sym, ap, ◌∙◌}
 use Rattle.integers.proofs.Bits.{same}
 use Rattle.integers.proofs.Ranges.{shifted}
 use Rattle.messages.specs.EdgeMessage.{moved_line}

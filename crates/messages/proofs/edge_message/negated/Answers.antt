@@ -1,8 +1,8 @@
 -- `negated` meets its contract. The loop's invariant: the first k places hold the amounts turned round, and the others 0.
-use Rattle.std.proofs.Common.{◌-◌, get_or, ℤ, pos, ◌-ℤ◌, neg_ℤ, ap, ◌∙◌, arith, to_z-of_z, rules}
+use Rattle.std.proofs.Common.{get_or, ℤ, pos, ◌-ℤ◌, neg_ℤ, ap, ◌∙◌, arith, to_z-of_z}
 use Rattle.integers.proofs.Bits.{same}
 use Rattle.messages.proofs.RowLaws.{from_zero, zero_fits}
-use Rattle.messages.proofs.OverLaws.{Overwritten, written_none, written_more, written_all, over_full}
+use Rattle.messages.proofs.OverLaws.{written_none, written_more, written_all, over_full}
 use Rattle.messages.proofs.EdgeLaws.{zeros}
 use Rattle.messages.proofs.edge_message.negated.Goals as goal
 

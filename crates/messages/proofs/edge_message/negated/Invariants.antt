@@ -1,8 +1,6 @@
 -- `negated` meets its contract. The loop's invariant: the first k places hold the amounts turned round, and the others 0.
-use Rattle.std.proofs.Common.{◌-◌, get_or, ℤ, pos, ◌-ℤ◌, neg_ℤ, ap, ◌∙◌, arith, to_z-of_z, rules}
-use Rattle.integers.proofs.Bits.{same}
-use Rattle.messages.proofs.RowLaws.{from_zero, zero_fits}
-use Rattle.messages.proofs.OverLaws.{Overwritten, written_none, written_more, written_all, over_full}
+use Rattle.std.proofs.Common.{◌-◌, get_or, pos, neg_ℤ}
+use Rattle.messages.proofs.OverLaws.{Overwritten}
 use Rattle.messages.proofs.EdgeLaws.{zeros}
 use Rattle.messages.proofs.edge_message.negated.Given as goal
 

@@ -1,11 +1,11 @@
 -- `node_amounts` meets its contract. The loop's invariant: the first k places hold what those positions give, and the others 0.
-use Rattle.std.proofs.Common.{◌≡◌, ◌-◌, length, get_or, ℤ, pos, ◌-ℤ◌, ◌∙◌, ap₂, w64, to_z, of_z, rules}
+use Rattle.std.proofs.Common.{◌≡◌, get_or, ℤ, pos, ◌-ℤ◌, ◌∙◌, ap₂, w64, to_z, of_z}
 use Rattle.integers.specs.Least.{least_of}
 use Rattle.integers.specs.Share.{share}
 use Rattle.integers.proofs.Bits.{same, answer}
 use Rattle.rules.specs.Calls.{cost_limit}
 use Rattle.messages.proofs.RowLaws.{least_of_within}
-use Rattle.messages.proofs.OverLaws.{Overwritten, written_none, written_more, written_all}
+use Rattle.messages.proofs.OverLaws.{written_none, written_more, written_all}
 use Rattle.messages.proofs.EdgeLaws.{zeros, node_is}
 use Rattle.messages.proofs.edge_message.node_amounts.Goals as goal
 use Rattle.messages.proofs.edge_message.node_amounts.Goals.{After-least_of-low}

@@ -1,12 +1,9 @@
 -- `node_amounts` meets its contract. The loop's invariant: the first k places hold what those positions give, and the others 0.
-use Rattle.std.proofs.Common.{◌≡◌, ◌-◌, length, get_or, ℤ, pos, ◌-ℤ◌, ◌∙◌, ap₂, w64, to_z, of_z, rules}
+use Rattle.std.proofs.Common.{◌-◌, length, get_or, pos, ◌-ℤ◌}
 use Rattle.integers.specs.Least.{least_of}
 use Rattle.integers.specs.Share.{share}
-use Rattle.integers.proofs.Bits.{same, answer}
-use Rattle.rules.specs.Calls.{cost_limit}
-use Rattle.messages.proofs.RowLaws.{least_of_within}
-use Rattle.messages.proofs.OverLaws.{Overwritten, written_none, written_more, written_all}
-use Rattle.messages.proofs.EdgeLaws.{zeros, node_is}
+use Rattle.messages.proofs.OverLaws.{Overwritten}
+use Rattle.messages.proofs.EdgeLaws.{zeros}
 use Rattle.messages.proofs.edge_message.node_amounts.Given as goal
 
 abbrev pub invariant-loop-k : goal.invariant-loop-k

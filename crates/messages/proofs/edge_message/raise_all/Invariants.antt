@@ -1,7 +1,6 @@
 -- `raise_all` meets its contract. The loop's invariant: the first k cells have received the amount, and the others are as they were.
-use Rattle.std.proofs.Common.{◌-◌, length, ℤ, refl, ap, ◌∙◌, arith, to_z-of_z, w64, to_z, rules}
-use Rattle.integers.proofs.Ranges.{shifted}
-use Rattle.messages.proofs.OverLaws.{Raised, written_none, written_length, raised_fits, raised_more, raised_all}
+use Rattle.std.proofs.Common.{◌-◌, length}
+use Rattle.messages.proofs.OverLaws.{Raised}
 use Rattle.messages.proofs.edge_message.raise_all.Given as goal
 
 abbrev pub invariant-loop-j : goal.invariant-loop-j

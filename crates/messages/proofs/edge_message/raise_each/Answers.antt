@@ -1,7 +1,7 @@
 -- `raise_each` meets its contract. The loop's invariant: the first k cells have received their amounts, and the others are as they were.
-use Rattle.std.proofs.Common.{ℕ, ◌-◌, length, get_or, ℤ, pos, arith, rules}
+use Rattle.std.proofs.Common.{ℕ, get_or, ℤ, pos, arith, rules}
 use Rattle.integers.proofs.Bits.{same}
-use Rattle.messages.proofs.OverLaws.{Raised, written_none, written_length, raised_fits, raised_more, raised_all}
+use Rattle.messages.proofs.OverLaws.{written_none, written_length, raised_fits, raised_more, raised_all}
 use Rattle.messages.proofs.edge_message.raise_each.Goals as goal
 use Rattle.messages.proofs.edge_message.raise_each.Goals.{Start}
 

@@ -1,7 +1,6 @@
 -- `raise_each` meets its contract. The loop's invariant: the first k cells have received their amounts, and the others are as they were.
-use Rattle.std.proofs.Common.{ℕ, ◌-◌, length, get_or, ℤ, pos, arith, rules}
-use Rattle.integers.proofs.Bits.{same}
-use Rattle.messages.proofs.OverLaws.{Raised, written_none, written_length, raised_fits, raised_more, raised_all}
+use Rattle.std.proofs.Common.{◌-◌, length, get_or, pos}
+use Rattle.messages.proofs.OverLaws.{Raised}
 use Rattle.messages.proofs.edge_message.raise_each.Given as goal
 
 abbrev pub invariant-loop-k : goal.invariant-loop-k

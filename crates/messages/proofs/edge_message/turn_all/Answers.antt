@@ -1,8 +1,8 @@
 -- `turn_all` meets its contract. The loop's invariant: the first k places hold what is given, and the others are as they were.
-use Rattle.std.proofs.Common.{◌-◌, get_or, ℤ, pos, ap, ◌∙◌, arith, to_z-of_z, w64, to_z, of_z, rules}
+use Rattle.std.proofs.Common.{get_or, ℤ, pos, ap, ◌∙◌, arith, to_z-of_z, w64, to_z, of_z}
 use Rattle.integers.proofs.Bits.{same, answer}
 use Rattle.messages.specs.EdgeMessage.{over, turned_least}
-use Rattle.messages.proofs.OverLaws.{Overwritten, written_none, written_next, written_more, written_all}
+use Rattle.messages.proofs.OverLaws.{written_none, written_next, written_more, written_all}
 use Rattle.messages.proofs.edge_message.turn_all.Goals as goal
 
 pub turned_least-requires : goal.turned_least-requires

@@ -1,8 +1,7 @@
 -- `turn_all` meets its contract. The loop's invariant: the first k places hold what is given, and the others are as they were.
-use Rattle.std.proofs.Common.{◌-◌, get_or, ℤ, pos, ap, ◌∙◌, arith, to_z-of_z, w64, to_z, of_z, rules}
-use Rattle.integers.proofs.Bits.{same, answer}
-use Rattle.messages.specs.EdgeMessage.{over, turned_least}
-use Rattle.messages.proofs.OverLaws.{Overwritten, written_none, written_next, written_more, written_all}
+use Rattle.std.proofs.Common.{◌-◌, get_or, pos}
+use Rattle.messages.specs.EdgeMessage.{turned_least}
+use Rattle.messages.proofs.OverLaws.{Overwritten}
 use Rattle.messages.proofs.edge_message.turn_all.Given as goal
 
 abbrev pub invariant-loop-k : goal.invariant-loop-k

@@ -1,5 +1,5 @@
 -- `amounts_of` meets its contract: of the row, or turned round of the table.
-use Rattle.std.proofs.Common.{Bool, List, ℤ, sym, ap, ◌∙◌, rules}
+use Rattle.std.proofs.Common.{Bool, List, ℤ, sym, ap, ◌∙◌}
 use Rattle.messages.specs.EdgeRecord.{amounts_of}
 use Rattle.messages.proofs.edge_record.amounts_of.Goals as goal
 use Rattle.messages.proofs.edge_record.amounts_of.Goals.{Start}

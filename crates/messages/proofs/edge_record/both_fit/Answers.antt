@@ -1,5 +1,5 @@
 -- `both_fit` meets its contract: the row is tested, and then the table.
-use Rattle.std.proofs.Common.{◌≡◌, ◌^◌, Bool, ◌&&◌, ltb, List, get_or, ℤ, pos, sym, ap, ◌∙◌, rules, le-ltb, lt-ltb}
+use Rattle.std.proofs.Common.{◌≡◌, ◌^◌, Bool, ◌&&◌, ltb, List, get_or, ℤ, pos, sym, ap, ◌∙◌, le-ltb, lt-ltb}
 use Rattle.integers.specs.Places.{every}
 use Rattle.integers.specs.Checks.{within}
 use Rattle.integers.proofs.Ranges.{shifted}

@@ -1,5 +1,5 @@
 -- `move_edge` meets its contract: the sheet says where the row, the table and the labels of both ends stand, and the parts move as the rules say.
-use Rattle.std.proofs.Common.{◌≡◌, ℕ, ◌+◌, ◌*◌, ◌<◌, Bool, cond, eqb, List, length, get_or, sym, ap, ◌∙◌, subst, arith, rules}
+use Rattle.std.proofs.Common.{◌≡◌, ℕ, ◌+◌, ◌*◌, ◌<◌, Bool, cond, eqb, List, length, get_or, sym, ap, ◌∙◌, subst, arith}
 use Rattle.integers.proofs.Places.{by_cond}
 use Rattle.integers.proofs.Rows.{part_back}
 use Rattle.instance.specs.Instance.{Instance}

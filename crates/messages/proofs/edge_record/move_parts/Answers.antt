@@ -1,5 +1,5 @@
 -- `move_parts` meets its contract: both parts are tested, and then both are written.
-use Rattle.std.proofs.Common.{◌≡◌, ℕ, ◌^◌, List, get_or, ℤ, pos, sym, ap, ◌∙◌, subst, ap₂, rules}
+use Rattle.std.proofs.Common.{◌≡◌, ℕ, ◌^◌, List, get_or, ℤ, pos, sym, ap, ◌∙◌, subst, ap₂}
 use mathlib.Core.Path.{transport}
 use Rattle.integers.specs.Sum.{Within}
 use Rattle.integers.proofs.Places.{if-true, if-false}

@@ -1,6 +1,6 @@
 -- `fill_none` meets its contract.
-use Rattle.std.proofs.Common.{◌-◌, length, ◌∙◌, arith, rules}
-use Rattle.integers.proofs.Filling.{Filling, fill_none, fill_more, fill_all, tabulate_same}
+use Rattle.std.proofs.Common.{length, ◌∙◌, arith}
+use Rattle.integers.proofs.Filling.{fill_none, fill_more, fill_all, tabulate_same}
 use Rattle.messages.proofs.filling.fill_none.Goals as goal
 
 pub loop-i-init : goal.loop-i-init

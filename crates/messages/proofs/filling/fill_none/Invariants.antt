@@ -1,6 +1,6 @@
 -- `fill_none` meets its contract.
-use Rattle.std.proofs.Common.{◌-◌, length, ◌∙◌, arith, rules}
-use Rattle.integers.proofs.Filling.{Filling, fill_none, fill_more, fill_all, tabulate_same}
+use Rattle.std.proofs.Common.{◌-◌, length}
+use Rattle.integers.proofs.Filling.{Filling}
 use Rattle.messages.proofs.filling.fill_none.Given as goal
 
 abbrev pub invariant-loop-i : goal.invariant-loop-i

@@ -1,8 +1,7 @@
 -- `fill_prices` meets its contract: the four bytes of each price are there.
-use Rattle.std.proofs.Common.{◌+◌, ◌-◌, ◌*◌, length, pos, ◌∙◌, arith, rules}
-use Rattle.integers.proofs.Bits.{same}
+use Rattle.std.proofs.Common.{◌+◌, ◌-◌, ◌*◌, length}
 use Rattle.instance.specs.Bytes.{price_at}
-use Rattle.integers.proofs.Filling.{Filling, fill_none, fill_more, fill_all}
+use Rattle.integers.proofs.Filling.{Filling}
 use Rattle.messages.proofs.filling.fill_prices.Given as goal
 
 abbrev pub invariant-loop-i : goal.invariant-loop-i

@@ -1,6 +1,6 @@
 -- `fill_zero` meets its contract.
-use Rattle.std.proofs.Common.{◌-◌, length, pos, ◌∙◌, arith, rules}
-use Rattle.integers.proofs.Filling.{Filling, fill_none, fill_more, fill_all, tabulate_same}
+use Rattle.std.proofs.Common.{length, pos, ◌∙◌, arith}
+use Rattle.integers.proofs.Filling.{fill_none, fill_more, fill_all, tabulate_same}
 use Rattle.messages.proofs.filling.fill_zero.Goals as goal
 
 pub loop-i-init : goal.loop-i-init

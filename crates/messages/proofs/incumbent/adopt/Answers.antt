@@ -1,5 +1,5 @@
 -- `adopt` meets its contract.
-use Rattle.std.proofs.Common.{sym, ◌∙◌, rules}
+use Rattle.std.proofs.Common.{sym, ◌∙◌}
 use Rattle.instance.specs.Sheet.{instance_of}
 use Rattle.messages.proofs.IncumbentLaws.{adopted_new, adopted_old}
 use Rattle.messages.proofs.incumbent.adopt.Goals as goal

@@ -1,7 +1,6 @@
 -- `all_none` meets its contract: each byte is tested in turn.
-use Rattle.std.proofs.Common.{◌-◌, eqb, length, get_or, sym, arith, eq-eqb, ne_eqb}
-use Rattle.integers.proofs.Checks.{Tested, tested_none, tested_more, tested_all, below_at}
-use Rattle.messages.proofs.RowLaws.{every_below, every_fails}
+use Rattle.std.proofs.Common.{◌-◌, eqb, length, get_or}
+use Rattle.integers.proofs.Checks.{Tested}
 use Rattle.messages.proofs.incumbent.all_none.Given as goal
 
 abbrev pub invariant-loop-i : goal.invariant-loop-i

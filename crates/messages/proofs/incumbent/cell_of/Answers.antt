@@ -1,5 +1,5 @@
 -- `cell_of` meets its contract: the row of the lower end's position, and the higher end's place in it.
-use Rattle.std.proofs.Common.{◌≡◌, ℕ, ◌+◌, ◌*◌, ◌<◌, List, get_or, sym, ◌∙◌, subst, ap₂, mul-le-mul, arith, rules}
+use Rattle.std.proofs.Common.{◌≡◌, ℕ, ◌+◌, ◌*◌, ◌<◌, List, get_or, sym, ◌∙◌, subst, ap₂, mul-le-mul, arith}
 use Rattle.instance.specs.Instance.{edge_cells}
 use Rattle.instance.specs.Sheet.{instance_of}
 use Rattle.rules.specs.Costs.{chosen_cell}

@@ -1,5 +1,5 @@
 -- `copy` meets its contract: after i turns the first i bytes are those of `from`, and the others as they were.
-use Rattle.std.proofs.Common.{◌≡◌, ℕ, ◌-◌, ◌≤◌, List, ◌++◌, length, get_or, take, drop, set, ap, ◌∙◌, arith, length-set}
+use Rattle.std.proofs.Common.{ℕ, List, get_or, set, ap, ◌∙◌, arith, length-set}
 use Rattle.messages.proofs.IncumbentLaws.{copied_none, copied_more, copied_all}
 use Rattle.messages.proofs.incumbent.copy.Goals as goal
 

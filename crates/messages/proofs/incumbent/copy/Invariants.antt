@@ -1,6 +1,5 @@
 -- `copy` meets its contract: after i turns the first i bytes are those of `from`, and the others as they were.
-use Rattle.std.proofs.Common.{◌≡◌, ℕ, ◌-◌, ◌≤◌, List, ◌++◌, length, get_or, take, drop, set, ap, ◌∙◌, arith, length-set}
-use Rattle.messages.proofs.IncumbentLaws.{copied_none, copied_more, copied_all}
+use Rattle.std.proofs.Common.{◌≡◌, ◌-◌, ◌≤◌, ◌++◌, length, take, drop}
 use Rattle.messages.proofs.incumbent.copy.Given as goal
 
 abbrev pub invariant-loop-i : goal.invariant-loop-i

@@ -1,10 +1,8 @@
 -- `edge_part` meets its contract: after e turns the sum is that of the first e edges.
-use Rattle.std.proofs.Common.{◌≡◌, ℕ, ◌+◌, ◌-◌, ◌*◌, ◌≤◌, List, ◌+ℤ◌, nat_abs, ap, ◌∙◌, arith, to_z-of_z, w64, SFits, to_z}
-use Rattle.integers.proofs.Bits.{same}
+use Rattle.std.proofs.Common.{◌-◌, ◌≤◌}
 use Rattle.instance.specs.Sheet.{instance_of}
 use Rattle.rules.specs.Costs.{chosen_cell}
-use Rattle.messages.proofs.SheetLaws.{whole, proper, edges_few_lem, edge_price_here}
-use Rattle.messages.proofs.SumLaws.{Added, added_none, added_fits, added_more, added_all}
+use Rattle.messages.proofs.SumLaws.{Added}
 use Rattle.messages.proofs.incumbent.edge_part.Given as goal
 
 abbrev pub invariant-loop-e : goal.invariant-loop-e

@@ -1,13 +1,8 @@
 -- `node_part` meets its contract: after u turns the sum is that of the first u nodes.
-use Rattle.std.proofs.Common.{◌≡◌, ℕ, ◌+◌, ◌-◌, ◌*◌, ◌<◌, ◌≤◌, List, get_or, ◌+ℤ◌, nat_abs, sym, ap, ◌∙◌, arith, to_z-of_z, w64, SFits, to_z, rules}
-use Rattle.integers.proofs.Bits.{same}
-use Rattle.instance.specs.Bytes.{price_at}
-use Rattle.instance.specs.Instance.{node_cells}
+use Rattle.std.proofs.Common.{◌-◌, ◌≤◌}
 use Rattle.instance.specs.Sheet.{instance_of}
 use Rattle.rules.specs.Costs.{chosen}
-use Rattle.messages.proofs.SheetLaws.{whole, proper, nodes_few_lem, node_price_here}
-use Rattle.messages.proofs.SumLaws.{Added, added_none, added_fits, added_more, added_all}
-use Rattle.messages.proofs.IncumbentLaws.{place_is, place_in}
+use Rattle.messages.proofs.SumLaws.{Added}
 use Rattle.messages.proofs.incumbent.node_part.Given as goal
 
 abbrev pub invariant-loop-u : goal.invariant-loop-u

@@ -1,5 +1,5 @@
 -- `none_kept` meets its contract.
-use Rattle.std.proofs.Common.{◌∙◌, rules}
+use Rattle.std.proofs.Common.{◌∙◌}
 use Rattle.messages.proofs.IncumbentLaws.{none_empty, none_some}
 use Rattle.messages.proofs.incumbent.none_kept.Goals as goal
 

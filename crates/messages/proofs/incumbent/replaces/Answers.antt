@@ -1,5 +1,5 @@
 -- `replaces` meets its contract: one that is kept is a labelling, so that both have a price.
-use Rattle.std.proofs.Common.{sym, ◌∙◌, ap₂, rules}
+use Rattle.std.proofs.Common.{sym, ◌∙◌, ap₂}
 use lib.Signed.{lt_z}
 use Rattle.integers.proofs.Bits.{same}
 use Rattle.instance.specs.Sheet.{instance_of}

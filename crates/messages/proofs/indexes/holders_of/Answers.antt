@@ -1,5 +1,5 @@
 -- `holders_of` meets its contract: the labels stand between the degrees and the node prices.
-use Rattle.std.proofs.Common.{◌≡◌, ◌+◌, ◌-◌, sym, subst, arith, rules}
+use Rattle.std.proofs.Common.{◌≡◌, ◌+◌, ◌-◌, sym, subst, arith}
 use Rattle.instance.specs.Instance.{first, node_cells}
 use Rattle.instance.specs.Sheet.{instance_of}
 use Rattle.instance.specs.Readable.{Readable}

@@ -1,5 +1,5 @@
 -- `lowers_of` meets its contract: the ends stand between the node prices and the edge prices.
-use Rattle.std.proofs.Common.{◌≡◌, ◌+◌, ◌-◌, ◌*◌, ◌≤◌, sym, subst, arith, rules}
+use Rattle.std.proofs.Common.{◌≡◌, ◌+◌, ◌-◌, ◌*◌, ◌≤◌, sym, subst, arith}
 use Rattle.instance.specs.Instance.{first}
 use Rattle.instance.specs.Sheet.{instance_of}
 use Rattle.instance.specs.Readable.{Readable}

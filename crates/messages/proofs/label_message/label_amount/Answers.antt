@@ -1,5 +1,5 @@
 -- `label_amount` meets its contract: a share of the distance from the least of 0 and the label's other costs.
-use Rattle.std.proofs.Common.{◌≡◌, ◌<◌, get_or, ℤ, pos, ◌-ℤ◌, ◌∙◌, ap₂, arith, rules}
+use Rattle.std.proofs.Common.{◌≡◌, ◌<◌, get_or, ℤ, pos, ◌-ℤ◌, ◌∙◌, ap₂, arith}
 use Rattle.integers.specs.Share.{share}
 use Rattle.integers.proofs.Bits.{same, answer}
 use Rattle.instance.specs.Sheet.{instance_of}

@@ -1,5 +1,5 @@
 -- `label_rival` meets its contract: the label's row of the index is gone through.
-use Rattle.std.proofs.Common.{◌≡◌, ℕ, ◌+◌, ◌-◌, ◌*◌, ◌<◌, ◌≤◌, List, [], ◌∷◌, map, get_or, ℤ, pos, sym, ap, ◌∙◌, ap₂, arith, w64, to_z, rules}
+use Rattle.std.proofs.Common.{◌≡◌, ℕ, ◌+◌, ◌-◌, ◌*◌, ◌<◌, List, [], ◌∷◌, map, get_or, ℤ, pos, sym, ap, ◌∙◌, ap₂, arith}
 use Rattle.integers.specs.Least.{least_from}
 use Rattle.integers.specs.Places.{others}
 use Rattle.integers.proofs.Bits.{same}

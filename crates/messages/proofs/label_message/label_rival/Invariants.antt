@@ -1,14 +1,11 @@
 -- `label_rival` meets its contract: the label's row of the index is gone through.
-use Rattle.std.proofs.Common.{◌≡◌, ℕ, ◌+◌, ◌-◌, ◌*◌, ◌<◌, ◌≤◌, List, [], ◌∷◌, map, get_or, ℤ, pos, sym, ap, ◌∙◌, ap₂, arith, w64, to_z, rules}
-use Rattle.integers.specs.Least.{least_from}
-use Rattle.integers.specs.Places.{others}
-use Rattle.integers.proofs.Bits.{same}
+use Rattle.std.proofs.Common.{◌≡◌, ◌+◌, ◌-◌, ◌*◌, ◌≤◌, get_or, pos}
 use Rattle.index.specs.Index.{many}
-use Rattle.messages.proofs.RivalLaws.{rival_in, rival_none, rival_next}
+use Rattle.messages.proofs.RivalLaws.{rival_in}
 use Rattle.messages.proofs.label_message.label_rival.Given as goal
 
 abbrev pub invariant-loop-at : goal.invariant-loop-at
-invariant-loop-at l =     (65 * l.label + 1 ≤ l.at) × (l.at ≤ 65 * l.label + 1 + many l.holders l.label) × (l.best ≡ rival_in (λ j. get_or l.labels j (pos 0)) l.own l.holders (65 * l.label + 1) (l.at - (65 * l.label + 1)))
+invariant-loop-at l = (65 * l.label + 1 ≤ l.at) × (l.at ≤ 65 * l.label + 1 + many l.holders l.label) × (l.best ≡ rival_in (λ j. get_or l.labels j (pos 0)) l.own l.holders (65 * l.label + 1) (l.at - (65 * l.label + 1)))
 
 abbrev pub decreases-loop-at : goal.decreases-loop-at
 decreases-loop-at l = 65 * l.label + 1 + many l.holders l.label - l.at

@@ -1,5 +1,5 @@
 -- `meet` meets its contract: no rival at its own place.
-use Rattle.std.proofs.Common.{get_or, pos, sym, ◌∙◌, ap₂, to_z-of_z, rules}
+use Rattle.std.proofs.Common.{get_or, pos, sym, ◌∙◌, ap₂, to_z-of_z}
 use Rattle.integers.specs.Least.{min_ℤ}
 use Rattle.integers.proofs.Bits.{same}
 use Rattle.messages.proofs.RivalLaws.{rival_own, rival_other}

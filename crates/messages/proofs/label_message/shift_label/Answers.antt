@@ -1,5 +1,5 @@
 -- `shift_label` meets its contract: both costs are tested, and then both are written.
-use Rattle.std.proofs.Common.{◌≡◌, get_or, pos, ◌+ℤ◌, ◌-ℤ◌, sym, ap, ◌∙◌, ap₂, to_z-of_z, w64, to_z, of_z, rules}
+use Rattle.std.proofs.Common.{◌≡◌, get_or, pos, ◌+ℤ◌, ◌-ℤ◌, sym, ap, ◌∙◌, ap₂, to_z-of_z, w64, to_z, of_z}
 use Rattle.integers.specs.Checks.{within}
 use Rattle.integers.proofs.Bits.{same}
 use Rattle.messages.proofs.LabelMessageLaws.{minus_fits, plus_fits, moved_both, moved_not}

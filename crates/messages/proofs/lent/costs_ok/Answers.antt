@@ -1,5 +1,5 @@
 -- `costs_ok` meets its contract.
-use Rattle.std.proofs.Common.{ℕ, Bool, List, ℤ, sym, ◌∙◌, rules}
+use Rattle.std.proofs.Common.{ℕ, Bool, List, ℤ, sym, ◌∙◌}
 use Rattle.integers.specs.Places.{every}
 use Rattle.integers.specs.Checks.{within}
 use Rattle.messages.proofs.LentLaws.{all_three, second_not, first_not}

@@ -1,5 +1,5 @@
 -- `incumbent_ok` meets its contract: all 255, or a matching.
-use Rattle.std.proofs.Common.{sym, ◌∙◌, rules}
+use Rattle.std.proofs.Common.{sym, ◌∙◌}
 use Rattle.instance.specs.Sheet.{instance_of}
 use Rattle.messages.proofs.LentLaws.{incumbent_none, incumbent_some}
 use Rattle.messages.proofs.lent.incumbent_ok.Goals as goal

@@ -1,5 +1,5 @@
 -- `lent_refusal` meets its contract: the checks in their order, each by what its function found.
-use Rattle.std.proofs.Common.{◌≡◌, ℕ, true, List, sym, ◌∙◌, subst, rules}
+use Rattle.std.proofs.Common.{◌≡◌, ℕ, true, List, sym, ◌∙◌, subst}
 use Rattle.instance.specs.Sheet.{instance_of, refusal_of}
 use Rattle.instance.proofs.LaidOut.{refusal_is}
 use Rattle.rules.specs.Costs.{Buffers, in_range}

@@ -1,5 +1,5 @@
 -- `run` meets its contract: refused ahead of the records, or run.
-use Rattle.std.proofs.Common.{sym, ◌∙◌, arith, rules}
+use Rattle.std.proofs.Common.{sym, ◌∙◌, arith}
 use Rattle.rules.specs.Costs.{Buffers}
 use Rattle.rules.specs.Calls.{cost_limit}
 use Rattle.messages.specs.Lent.{lent}

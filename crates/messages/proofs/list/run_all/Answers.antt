@@ -1,5 +1,5 @@
 -- `run_all` meets its contract: the run so far and the rest of it are the whole run.
-use Rattle.std.proofs.Common.{◌≡◌, ℕ, ◌+◌, ◌-◌, ◌^◌, ◌<◌, ◌≤◌, List, length, drop, sym, ap, ◌∙◌, arith}
+use Rattle.std.proofs.Common.{◌≡◌, ℕ, ◌+◌, ◌^◌, ◌<◌, ◌≤◌, List, length, drop, sym, ap, ◌∙◌, arith}
 use Rattle.integers.proofs.Rows.{tail_part}
 use Rattle.instance.specs.Instance.{Instance}
 use Rattle.instance.specs.Sheet.{instance_of}
@@ -8,7 +8,7 @@ use Rattle.rules.specs.Run.{step}
 use Rattle.messages.specs.Lent.{lent}
 use Rattle.messages.specs.Records.{head_of}
 use Rattle.messages.specs.Step.{settle, settled, settled_by}
-use Rattle.messages.proofs.RunLaws.{Going, record_of, going_start, going_sized, going_end, going_room, going_bytes, going_refused, going_few, going_next}
+use Rattle.messages.proofs.RunLaws.{record_of, going_start, going_sized, going_end, going_room, going_bytes, going_refused, going_few, going_next}
 use Rattle.messages.proofs.list.run_all.Goals as goal
 use Rattle.messages.proofs.list.run_all.Goals.{After-one_record-taken, At-loop-at, In-loop-at, Start}
 

@@ -1,5 +1,5 @@
 -- `run_good` meets its contract: what reading answered is what a run asks.
-use Rattle.std.proofs.Common.{◌≡◌, ℕ, List, sym, ap, ◌∙◌, subst, rules}
+use Rattle.std.proofs.Common.{◌≡◌, ℕ, List, sym, ap, ◌∙◌, subst}
 use Rattle.instance.specs.Sheet.{instance_of}
 use Rattle.instance.proofs.LaidOut.{refusal_is}
 use Rattle.rules.specs.Costs.{Buffers}

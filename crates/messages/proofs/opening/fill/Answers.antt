@@ -1,5 +1,4 @@
 -- `fill` meets its contract: each part by its own call.
-use Rattle.std.proofs.Common.{rules}
 use Rattle.messages.proofs.opening.fill.Goals as goal
 
 pub returns : goal.returns

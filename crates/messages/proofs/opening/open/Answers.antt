@@ -1,5 +1,5 @@
 -- `open` meets its contract: refused, nothing is altered; else the four buffers are filled from the sheet.
-use Rattle.std.proofs.Common.{◌≡◌, ℕ, true, List, sym, ap, ◌∙◌, subst, arith, rules}
+use Rattle.std.proofs.Common.{◌≡◌, ℕ, true, List, sym, ap, ◌∙◌, subst, arith}
 use Rattle.instance.specs.declared.reading.Layout.{Layout}
 use Rattle.instance.specs.Sheet.{instance_of}
 use Rattle.instance.specs.Layout.{layout_of}

@@ -1,5 +1,5 @@
 -- `edge_record` meets its contract: a legal record moves, another is refused.
-use Rattle.std.proofs.Common.{◌≡◌, true, sym, ◌∙◌, rules}
+use Rattle.std.proofs.Common.{◌≡◌, true, sym, ◌∙◌}
 use Rattle.instance.specs.Sheet.{instance_of}
 use Rattle.rules.specs.Run.{legal_edge}
 use Rattle.messages.proofs.RecordLaws.{edge_taken_lem, edge_refused, edge_legal}

@@ -1,5 +1,5 @@
 -- `label_record` meets its contract: a legal record moves one way or the other, another is refused.
-use Rattle.std.proofs.Common.{◌≡◌, ℕ, ◌+◌, ◌<◌, true, get_or, sym, ap, ◌∙◌, arith, rules}
+use Rattle.std.proofs.Common.{◌≡◌, ℕ, ◌+◌, ◌<◌, true, get_or, sym, ap, ◌∙◌, arith}
 use Rattle.integers.proofs.Bits.{same}
 use Rattle.instance.specs.Instance.{Instance, first}
 use Rattle.instance.specs.Sheet.{instance_of}

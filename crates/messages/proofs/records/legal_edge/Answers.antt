@@ -1,5 +1,5 @@
 -- `legal_edge` meets its contract, test by test.
-use Rattle.std.proofs.Common.{◌≡◌, ◌<◌, true, eqb, sym, ap, ◌∙◌, arith, rules}
+use Rattle.std.proofs.Common.{◌≡◌, ◌<◌, true, eqb, sym, ap, ◌∙◌, arith}
 use Rattle.instance.specs.Instance.{Instance}
 use Rattle.instance.specs.Sheet.{instance_of}
 use Rattle.rules.specs.Run.{legal_share}

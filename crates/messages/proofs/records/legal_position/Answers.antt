@@ -1,5 +1,5 @@
 -- `legal_position` meets its contract, test by test.
-use Rattle.std.proofs.Common.{◌≡◌, ℕ, ◌+◌, ◌<◌, true, get_or, sym, ap, ◌∙◌, arith, rules}
+use Rattle.std.proofs.Common.{◌≡◌, ℕ, ◌+◌, ◌<◌, true, get_or, sym, ap, ◌∙◌, arith}
 use Rattle.instance.specs.Instance.{Instance, exclusive, first, node_cells}
 use Rattle.instance.specs.Sheet.{instance_of}
 use Rattle.instance.proofs.LaidOut.{row_inside, positions_few_lem}

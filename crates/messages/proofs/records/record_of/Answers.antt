@@ -1,5 +1,5 @@
 -- `record_of` meets its contract, byte by byte.
-use Rattle.std.proofs.Common.{◌+◌, ◌*◌, get_or, rules}
+use Rattle.std.proofs.Common.{◌+◌, ◌*◌, get_or}
 use Rattle.messages.proofs.records.record_of.Goals as goal
 
 pub returns : goal.returns

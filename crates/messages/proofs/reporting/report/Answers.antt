@@ -1,5 +1,5 @@
 -- `report` meets its contract: refused, or what is told.
-use Rattle.std.proofs.Common.{sym, ◌∙◌, arith, rules}
+use Rattle.std.proofs.Common.{sym, ◌∙◌, arith}
 use Rattle.rules.specs.Costs.{Buffers}
 use Rattle.rules.specs.Calls.{cost_limit}
 use Rattle.messages.specs.Lent.{lent}

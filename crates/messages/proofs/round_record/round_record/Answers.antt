@@ -1,5 +1,5 @@
 -- `round_record` meets its contract: the record rounds if it names nothing, and is refused otherwise.
-use Rattle.std.proofs.Common.{sym, ◌∙◌, rules}
+use Rattle.std.proofs.Common.{sym, ◌∙◌}
 use Rattle.instance.specs.Sheet.{instance_of}
 use Rattle.messages.proofs.RoundRecordLaws.{taken_rounds, taken_refused}
 use Rattle.messages.proofs.round_record.round_record.Goals as goal

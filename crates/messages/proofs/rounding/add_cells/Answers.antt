@@ -1,5 +1,5 @@
 -- `add_cells` meets its contract: after i places the row's first i are added.
-use Rattle.std.proofs.Common.{◌≡◌, ℕ, ◌+◌, ◌-◌, ◌≤◌, List, length, get_or, take, set, ℤ, pos, ◌+ℤ◌, sym, ap, ◌∙◌, ap₂, arith, take_all, to_z-of_z, w64, SFits, rules}
+use Rattle.std.proofs.Common.{◌≡◌, ℕ, List, length, get_or, take, set, ℤ, pos, ◌+ℤ◌, sym, ap, ◌∙◌, ap₂, arith, take_all, to_z-of_z, w64, SFits}
 use Rattle.integers.proofs.Parts.{linear, add, abs}
 use Rattle.integers.proofs.Bits.{same}
 use Rattle.messages.specs.Rounded.{added}

@@ -1,5 +1,5 @@
 -- `add_edge` meets its contract: the row lies in the edge's table.
-use Rattle.std.proofs.Common.{◌≡◌, ℕ, ◌+◌, ◌-◌, ◌*◌, ◌<◌, ◌≤◌, length, get_or, take, drop, sym, ap, ◌∙◌, subst, ap₂, arith, rules}
+use Rattle.std.proofs.Common.{◌≡◌, ℕ, ◌+◌, ◌-◌, ◌*◌, ◌<◌, ◌≤◌, length, get_or, take, drop, sym, ap, ◌∙◌, subst, ap₂, arith}
 use Rattle.integers.proofs.Rows.{length_part, within_part}
 use Rattle.instance.specs.Instance.{Instance, table}
 use Rattle.instance.specs.Sheet.{instance_of}

@@ -1,5 +1,5 @@
 -- `better_of` meets its contract, case by case.
-use Rattle.std.proofs.Common.{ℕ, get_or, ℤ, pos, sym, ◌∙◌, ap₂, rules}
+use Rattle.std.proofs.Common.{ℕ, get_or, ℤ, pos, sym, ◌∙◌, ap₂}
 use lib.Signed.{lt_z}
 use Rattle.integers.proofs.Bits.{same}
 use Rattle.messages.proofs.ChoiceLaws.{better_first, better_less, better_stays, better_taken}

@@ -1,5 +1,5 @@
 -- `choose` meets its contract: after k positions the best is that of the first k.
-use Rattle.std.proofs.Common.{◌≡◌, ℕ, ◌+◌, ◌-◌, ◌<◌, ◌≤◌, false, get_or, pos, ap, ◌∙◌, ap₂, arith}
+use Rattle.std.proofs.Common.{◌≡◌, ℕ, ◌+◌, ◌<◌, false, get_or, pos, ap, ◌∙◌, ap₂, arith}
 use Rattle.instance.specs.Instance.{Instance, node_cells}
 use Rattle.instance.specs.Sheet.{instance_of}
 use Rattle.instance.proofs.LaidOut.{positions_few_lem}

@@ -1,11 +1,7 @@
 -- `choose` meets its contract: after k positions the best is that of the first k.
-use Rattle.std.proofs.Common.{◌≡◌, ℕ, ◌+◌, ◌-◌, ◌<◌, ◌≤◌, false, get_or, pos, ap, ◌∙◌, ap₂, arith}
-use Rattle.instance.specs.Instance.{Instance, node_cells}
+use Rattle.std.proofs.Common.{◌≡◌, ◌-◌, ◌≤◌}
 use Rattle.instance.specs.Sheet.{instance_of}
-use Rattle.instance.proofs.LaidOut.{positions_few_lem}
-use Rattle.messages.specs.Rounded.{better, chosen_from}
-use Rattle.messages.proofs.SheetLaws.{proper}
-use Rattle.messages.proofs.ChoiceLaws.{chosen_none, chosen_few, chosen_more}
+use Rattle.messages.specs.Rounded.{chosen_from}
 use Rattle.messages.proofs.rounding.choose.Given as goal
 
 abbrev pub invariant-loop-k : goal.invariant-loop-k

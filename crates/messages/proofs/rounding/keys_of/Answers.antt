@@ -1,5 +1,5 @@
 -- `keys_of` meets its contract: the edges of which the node is the higher end are gone through by the index.
-use Rattle.std.proofs.Common.{◌≡◌, ℕ, ◌+◌, ◌-◌, ◌*◌, ◌^◌, ◌<◌, ◌≤◌, List, [], ◌∷◌, ◌++◌, map, length, get_or, take, drop, replicate, ℤ, pos, sym, ap, ◌∙◌, subst, ap₂, arith, rules}
+use Rattle.std.proofs.Common.{◌≡◌, ℕ, ◌+◌, ◌-◌, ◌*◌, ◌^◌, ◌<◌, ◌≤◌, List, [], ◌∷◌, ◌++◌, map, length, get_or, take, drop, replicate, ℤ, pos, sym, ap, ◌∙◌, subst, ap₂, arith}
 use lib.ListN.{length-map}
 use Rattle.integers.specs.Places.{range}
 use Rattle.integers.specs.Rows.{part}

@@ -1,19 +1,9 @@
 -- `keys_of` meets its contract: the edges of which the node is the higher end are gone through by the index.
-use Rattle.std.proofs.Common.{◌≡◌, ℕ, ◌+◌, ◌-◌, ◌*◌, ◌^◌, ◌<◌, ◌≤◌, List, [], ◌∷◌, ◌++◌, map, length, get_or, take, drop, replicate, ℤ, pos, sym, ap, ◌∙◌, subst, ap₂, arith, rules}
-use lib.ListN.{length-map}
+use Rattle.std.proofs.Common.{◌≡◌, ℕ, ◌+◌, ◌-◌, ◌*◌, ◌≤◌, List, map, get_or, ℤ}
 use Rattle.integers.specs.Places.{range}
-use Rattle.integers.specs.Rows.{part}
-use Rattle.integers.specs.Sum.{Within}
-use Rattle.integers.proofs.Rows.{length_part, within_part}
-use Rattle.instance.specs.Instance.{Instance, first}
 use Rattle.instance.specs.Sheet.{instance_of}
-use Rattle.instance.proofs.LaidOut.{row_inside, positions_few_lem}
-use Rattle.integers.proofs.Places.{length-range}
 use Rattle.index.specs.Index.{many}
-use Rattle.rules.specs.Calls.{cost_limit}
-use Rattle.messages.specs.Rounded.{added, edge_row}
-use Rattle.messages.proofs.SheetLaws.{proper, nodes_few_lem, start_is}
-use Rattle.messages.proofs.KeyLaws.{zeros_within, keys_over, keys_length, keys_small, keys_first, keys_next, keys_all, things, things_more, thing_keyed, row_room}
+use Rattle.messages.proofs.KeyLaws.{keys_over}
 use Rattle.messages.proofs.rounding.keys_of.Given as goal
 
 -- after n edges of the node's row of the index
@@ -21,7 +11,7 @@ abbrev pub Keyed : List ℕ → List ℤ → List ℤ → List ℕ → ℕ → L
 Keyed sheet nodes edges x u lowers n keys = keys ≡ keys_over (instance_of sheet) nodes edges x u (map (λ j. get_or lowers j 0) (range (65 * u + 1) n))
 
 abbrev pub invariant-loop-at : goal.invariant-loop-at
-invariant-loop-at l =     (65 * l.u + 1 ≤ l.at) × (l.at ≤ 65 * l.u + 1 + many l.lowers l.u) × Keyed l.sheet l.nodes l.edges l.positions l.u l.lowers (l.at - (65 * l.u + 1)) l.keys
+invariant-loop-at l = (65 * l.u + 1 ≤ l.at) × (l.at ≤ 65 * l.u + 1 + many l.lowers l.u) × Keyed l.sheet l.nodes l.edges l.positions l.u l.lowers (l.at - (65 * l.u + 1)) l.keys
 
 abbrev pub decreases-loop-at : goal.decreases-loop-at
 decreases-loop-at l = 65 * l.u + 1 + many l.lowers l.u - l.at

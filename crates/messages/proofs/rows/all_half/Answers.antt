@@ -1,7 +1,7 @@
 -- `all_half` meets its contract. The loop's invariant: if what is joined stays below twice `half`, each cost so far lies within it.
-use Rattle.std.proofs.Common.{◌-◌, ◌≤◌, length, get_or, ℤ, pos, nat_abs, subst, arith, rules}
+use Rattle.std.proofs.Common.{◌≤◌, get_or, ℤ, pos, nat_abs, subst}
 use Rattle.integers.proofs.Bits.{same}
-use Rattle.messages.proofs.ExcessLaws.{Halving, halving_none, halving_more, halving_all}
+use Rattle.messages.proofs.ExcessLaws.{halving_none, halving_more, halving_all}
 use Rattle.messages.proofs.rows.all_half.Goals as goal
 
 pub loop-i-preserved : goal.loop-i-preserved

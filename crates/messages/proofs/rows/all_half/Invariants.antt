@@ -1,7 +1,6 @@
 -- `all_half` meets its contract. The loop's invariant: if what is joined stays below twice `half`, each cost so far lies within it.
-use Rattle.std.proofs.Common.{◌-◌, ◌≤◌, length, get_or, ℤ, pos, nat_abs, subst, arith, rules}
-use Rattle.integers.proofs.Bits.{same}
-use Rattle.messages.proofs.ExcessLaws.{Halving, halving_none, halving_more, halving_all}
+use Rattle.std.proofs.Common.{◌-◌, length}
+use Rattle.messages.proofs.ExcessLaws.{Halving}
 use Rattle.messages.proofs.rows.all_half.Given as goal
 
 abbrev pub invariant-loop-i : goal.invariant-loop-i

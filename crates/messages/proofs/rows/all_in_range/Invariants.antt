@@ -1,9 +1,7 @@
 -- `all_in_range` meets its contract: what each cost gives is joined, so the test at the end is that of each cost.
-use Rattle.std.proofs.Common.{◌-◌, length, get_or, pos, sym, ap, ◌∙◌, arith, rules}
+use Rattle.std.proofs.Common.{◌-◌, length, get_or, pos}
 use Rattle.integers.specs.Checks.{within}
-use Rattle.integers.proofs.Bits.{same}
-use Rattle.messages.proofs.RowLaws.{every_is}
-use Rattle.messages.proofs.ExcessLaws.{Joining, joining_none, joining_more, joining_all}
+use Rattle.messages.proofs.ExcessLaws.{Joining}
 use Rattle.messages.proofs.rows.all_in_range.Given as goal
 
 abbrev pub invariant-loop-i : goal.invariant-loop-i

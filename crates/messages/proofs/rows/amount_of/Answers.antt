@@ -1,5 +1,5 @@
 -- `amount_of` meets its contract: with no other cost the amount is 0, else a share of the distance from the least of the others.
-use Rattle.std.proofs.Common.{get_or, ℤ, pos, ◌-ℤ◌, sym, ◌∙◌, ap₂, arith, rules}
+use Rattle.std.proofs.Common.{get_or, ℤ, pos, ◌-ℤ◌, sym, ◌∙◌, ap₂, arith}
 use Rattle.integers.specs.Least.{without}
 use Rattle.integers.specs.Share.{share}
 use Rattle.integers.proofs.Rows.{length_without, within_without}
@@ -18,8 +18,11 @@ pub share_of-requires : goal.share_of-requires
 share_of-requires c =
     let l = c.args.row.now in
     let k = c.args.k in
-    let h = c.requires.within in record { le_r = c.requires.le_share; cost_bound = rw (same (get_or l k (pos 0)) c.share_of-arg-1.given, same c.rival.result c.rival.type_inv, c.rival.ensures)
-          (h k, least_of_within cost_limit (without l k) (within_without cost_limit k l h)) }
+    let h = c.requires.within in record {
+      le_r = c.requires.le_share;
+      cost_bound = rw (same (get_or l k (pos 0)) c.share_of-arg-1.given, same c.rival.result c.rival.type_inv, c.rival.ensures)
+          (h k, least_of_within cost_limit (without l k) (within_without cost_limit k l h));
+    }
 
 pub returns : goal.returns
 returns c =

@@ -1,5 +1,5 @@
 -- `in_range` meets its contract: below 0 the size of a cost is 0 less its bits, and else it is its bits.
-use Rattle.std.proofs.Common.{◌≡◌, ℕ, ◌+◌, ◌%◌, ◌^◌, leb, sym, ap, ◌∙◌, arith, to_z-of_z, w64, of_z, rules}
+use Rattle.std.proofs.Common.{◌≡◌, ℕ, ◌+◌, ◌%◌, ◌^◌, leb, sym, ap, ◌∙◌, arith, to_z-of_z, w64, of_z}
 use Rattle.integers.specs.Checks.{within}
 use Rattle.integers.proofs.Parts.{linear}
 use Rattle.integers.proofs.Bits.{read}

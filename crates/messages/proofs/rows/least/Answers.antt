@@ -1,9 +1,9 @@
 -- `least` meets its contract. The loop's invariant: the least of the four and of what is left is the least of all.
-use Rattle.std.proofs.Common.{◌-◌, length, ℤ, ap, ◌∙◌, ap₂, arith, to_z-of_z, w64, to_z, rules}
+use Rattle.std.proofs.Common.{ℤ, ap, ◌∙◌, ap₂, arith, to_z-of_z}
 use Rattle.integers.specs.Least.{min_ℤ, least_from}
 use Rattle.integers.proofs.Rows.{tail_part}
 use Rattle.integers.proofs.Bits.{answer}
-use Rattle.messages.proofs.LeastLaws.{Abreast, abreast_none, abreast_more, abreast_is}
+use Rattle.messages.proofs.LeastLaws.{abreast_none, abreast_more, abreast_is}
 use Rattle.messages.proofs.rows.least.Goals as goal
 
 pub loop-i-preserved : goal.loop-i-preserved

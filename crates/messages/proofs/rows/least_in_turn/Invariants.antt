@@ -1,8 +1,6 @@
 -- `least_in_turn` meets its contract. The loop's invariant: the least of `best` and of what is left is the least of all.
-use Rattle.std.proofs.Common.{◌≡◌, ◌+◌, ◌-◌, ◌≤◌, length, drop, ℤ, pos, ap, ◌∙◌, arith, to_z-of_z, w64, to_z, rules}
+use Rattle.std.proofs.Common.{◌≡◌, ◌-◌, ◌≤◌, length, drop}
 use Rattle.integers.specs.Least.{least_from}
-use Rattle.integers.proofs.Least.{least_step, least_done}
-use Rattle.integers.proofs.Bits.{answer}
 use Rattle.messages.proofs.rows.least_in_turn.Given as goal
 
 abbrev pub invariant-loop-i : goal.invariant-loop-i

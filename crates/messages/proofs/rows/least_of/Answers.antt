@@ -1,5 +1,5 @@
 -- `least_of` meets its contract: the first cost is the start value, and counts as an element besides.
-use Rattle.std.proofs.Common.{get_or, ℤ, pos, ap, ◌∙◌, rules}
+use Rattle.std.proofs.Common.{get_or, ℤ, pos, ap, ◌∙◌}
 use Rattle.integers.specs.Least.{least_from}
 use Rattle.integers.proofs.Bits.{same, answer}
 use Rattle.messages.proofs.LeastLaws.{least_whole}

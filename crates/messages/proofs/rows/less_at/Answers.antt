@@ -1,5 +1,5 @@
 -- `less_at` meets its contract, by that of `smaller`.
-use Rattle.std.proofs.Common.{get_or, pos, ◌∙◌, ap₂, to_z-of_z, rules}
+use Rattle.std.proofs.Common.{get_or, pos, ◌∙◌, ap₂, to_z-of_z}
 use Rattle.integers.specs.Least.{min_ℤ}
 use Rattle.integers.proofs.Bits.{same, answer}
 use Rattle.messages.proofs.rows.less_at.Goals as goal

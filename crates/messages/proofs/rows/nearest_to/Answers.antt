@@ -1,5 +1,5 @@
 -- `nearest_to` meets its contract: half of r counts as more where the quotient is odd.
-use Rattle.std.proofs.Common.{◌+◌, ◌*◌, ◌/◌, ◌%◌, sym, ◌∙◌, mod-lt, div-le_self, arith, rules, le-ltb, lt-ltb}
+use Rattle.std.proofs.Common.{◌+◌, ◌*◌, ◌/◌, ◌%◌, sym, ◌∙◌, mod-lt, div-le_self, arith, le-ltb, lt-ltb}
 use Rattle.integers.proofs.Places.{if-true, if-false}
 use Rattle.integers.proofs.Share.{nearest_by}
 use Rattle.messages.proofs.rows.nearest_to.Goals as goal

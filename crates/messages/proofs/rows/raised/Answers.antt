@@ -1,5 +1,5 @@
 -- `raised` meets its contract: a cost that `half` lifts above 0, and not past twice itself, lies within `half`.
-use Rattle.std.proofs.Common.{ℕ, ◌+◌, ◌%◌, ◌^◌, ap, ◌∙◌, to_z-of_z, w64, of_z, rules}
+use Rattle.std.proofs.Common.{ℕ, ◌+◌, ◌%◌, ◌^◌, ap, ◌∙◌, to_z-of_z, w64, of_z}
 use Rattle.messages.proofs.ExcessLaws.{half_way}
 use Rattle.messages.proofs.rows.raised.Goals as goal
 

@@ -1,5 +1,5 @@
 -- `rival` meets its contract: the first of the others is the start value, and counts as an element besides.
-use Rattle.std.proofs.Common.{ℕ, ◌≤◌, get_or, ℤ, pos, ap, ◌∙◌, ⊎_elim, arith, rules}
+use Rattle.std.proofs.Common.{ℕ, ◌≤◌, get_or, ℤ, pos, ap, ◌∙◌, arith}
 use Rattle.integers.specs.Least.{least_from, without}
 use Rattle.integers.proofs.Rows.{length_without}
 use Rattle.integers.proofs.Bits.{same, answer}

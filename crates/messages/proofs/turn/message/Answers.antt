@@ -1,5 +1,5 @@
 -- `message` meets its contract: kinds 1 and 2 by one function, 3 and 4 by the other.
-use Rattle.std.proofs.Common.{sym, ap, ◌∙◌, rules}
+use Rattle.std.proofs.Common.{sym, ap, ◌∙◌}
 use Rattle.messages.specs.Lent.{lent}
 use Rattle.messages.specs.LabelMessage.{Moved}
 use Rattle.messages.specs.Step.{settle}

@@ -1,5 +1,5 @@
 -- `one_record` meets its contract, kind by kind.
-use Rattle.std.proofs.Common.{sym, ap, ◌∙◌, ap₂, inl, inr, arith, rules}
+use Rattle.std.proofs.Common.{sym, ap, ◌∙◌, ap₂, inl, inr, arith}
 use Rattle.instance.specs.Instance.{Instance}
 use Rattle.instance.specs.Sheet.{instance_of}
 use Rattle.rules.specs.Costs.{Buffers}

@@ -1,7 +1,7 @@
 -- `usable_least` meets its contract. The loop's invariant: `best` is the least usable cell before `from`, and the cells from there up to the row are usable.
-use Rattle.std.proofs.Common.{◌+◌, ◌-◌, ◌≤◌, length, ◌∙◌, ⊎_elim, arith, w64, to_z, rules}
+use Rattle.std.proofs.Common.{◌+◌, ◌≤◌, length, ◌∙◌, arith}
 use Rattle.integers.proofs.Bits.{answer}
-use Rattle.messages.proofs.UsableLeast.{Passing, passing_none, passing_clear, passing_skip, passing_done}
+use Rattle.messages.proofs.UsableLeast.{passing_none, passing_clear, passing_skip, passing_done}
 use Rattle.messages.proofs.EdgeLaws.{row_end}
 use Rattle.messages.proofs.usable.usable_least.Goals as goal
 use Rattle.messages.proofs.usable.usable_least.Goals.{then-skip-width, else-skip-width, After-clash-skip, At-loop-k, Start}
@@ -26,7 +26,7 @@ loop-k-preserved c =
     let h = c.loop-k-test.true in
     let z = c.clash-skip.ensures in
     elim c.if-skip-width.branch [
-      then-skip-width w ↦ rw (w.best-is, w.from-is) (passing_skip e (p d).loop-k.invariant h (room d) z w.if-skip-width.true (answer w.least-best.type_inv w.least-best.ensures))
+      | then-skip-width w ↦ rw (w.best-is, w.from-is) (passing_skip e (p d).loop-k.invariant h (room d) z w.if-skip-width.true (answer w.least-best.type_inv w.least-best.ensures))
       | else-skip-width w ↦ rw (w.best-is, w.from-is) (passing_clear e (p d).loop-k.invariant h (room d) z w.if-skip-width.false)
     ]
 

@@ -1,8 +1,6 @@
 -- `usable_least` meets its contract. The loop's invariant: `best` is the least usable cell before `from`, and the cells from there up to the row are usable.
-use Rattle.std.proofs.Common.{◌+◌, ◌-◌, ◌≤◌, length, ◌∙◌, ⊎_elim, arith, w64, to_z, rules}
-use Rattle.integers.proofs.Bits.{answer}
-use Rattle.messages.proofs.UsableLeast.{Passing, passing_none, passing_clear, passing_skip, passing_done}
-use Rattle.messages.proofs.EdgeLaws.{row_end}
+use Rattle.std.proofs.Common.{◌-◌, length}
+use Rattle.messages.proofs.UsableLeast.{Passing}
 use Rattle.messages.proofs.usable.usable_least.Given as goal
 
 abbrev pub invariant-loop-k : goal.invariant-loop-k

@@ -1,5 +1,5 @@
 -- `degree_of` meets its contract: the degrees are the sheet's first bytes.
-use Rattle.std.proofs.Common.{◌∙◌, arith, rules}
+use Rattle.std.proofs.Common.{◌∙◌, arith}
 use Rattle.messages.proofs.SheetLaws.{node_byte, degree_is, degree_small}
 use Rattle.messages.proofs.view.degree_of.Goals as goal
 

@@ -1,5 +1,5 @@
 -- `high_end` meets its contract: both ends lie in the sheet.
-use Rattle.std.proofs.Common.{◌∙◌, arith, rules}
+use Rattle.std.proofs.Common.{◌∙◌, arith}
 use Rattle.messages.proofs.SheetLaws.{end_bytes, high_is, high_node}
 use Rattle.messages.proofs.view.high_end.Goals as goal
 

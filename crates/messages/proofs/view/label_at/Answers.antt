@@ -1,5 +1,5 @@
 -- `label_at` meets its contract: the labels stand behind the degrees.
-use Rattle.std.proofs.Common.{◌∙◌, arith, rules}
+use Rattle.std.proofs.Common.{◌∙◌, arith}
 use Rattle.instance.proofs.LaidOut.{label_small}
 use Rattle.messages.proofs.SheetLaws.{whole, proper, label_byte, label_is}
 use Rattle.messages.proofs.view.label_at.Goals as goal

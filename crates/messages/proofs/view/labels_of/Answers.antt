@@ -1,5 +1,5 @@
 -- `labels_of` meets its contract: the labels stand after the degrees, a node's from its first place on.
-use Rattle.std.proofs.Common.{◌≡◌, ℕ, ◌+◌, ◌-◌, ◌≤◌, length, ap₂, arith, rules}
+use Rattle.std.proofs.Common.{◌≡◌, ℕ, ◌+◌, ◌-◌, ◌≤◌, length, ap₂, arith}
 use Rattle.integers.specs.Rows.{part}
 use Rattle.instance.specs.Instance.{Instance}
 use Rattle.instance.specs.Sheet.{instance_of}

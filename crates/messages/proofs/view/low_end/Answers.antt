@@ -1,5 +1,5 @@
 -- `low_end` meets its contract: both ends lie in the sheet.
-use Rattle.std.proofs.Common.{◌∙◌, arith, rules}
+use Rattle.std.proofs.Common.{◌∙◌, arith}
 use Rattle.messages.proofs.SheetLaws.{end_bytes, low_is, low_node}
 use Rattle.messages.proofs.view.low_end.Goals as goal
 

@@ -1,10 +1,10 @@
 -- `place_all` meets its contract: the nodes below u are seated.
-use Prim.Native.Nat.{◌-◌, ◌<◌}
+use Prim.Native.Nat.{◌<◌}
 use mathlib.Core.Path.{refl}
 use native.Mathlib.Omega.{arith}
 use Rattle.integers.proofs.Words.{bit_zero}
 use Rattle.assignment.proofs.Counts.{differ}
-use Rattle.placing.proofs.Seating.{Filling, filling_none, filling_own, filling_unplaced, filling_more, filling_blocked, filling_done}
+use Rattle.placing.proofs.Seating.{filling_none, filling_own, filling_unplaced, filling_more, filling_blocked, filling_done}
 use Rattle.placing.proofs.all.place_all.Goals as goal
 use Rattle.placing.proofs.all.place_all.Goals.{In-loop-u}
 
@@ -31,12 +31,11 @@ loop-u-preserved c =
 pub returns-else-r : goal.returns-else-r
 returns-else-r c =
     record {
-  yes = λ z. absurd (differ z refl);
-  no = λ _.
-      let (same, _, _, ended) = c.chain-r.ensures.no c.if-r.false in
-      rw same (filling_blocked c.requires.0 c.loop-u.invariant c.loop-u-test.true c.if-vanishes.false ended);
-
-}
+      yes = λ z. absurd (differ z refl);
+      no = λ _.
+          let (same, _, _, ended) = c.chain-r.ensures.no c.if-r.false in
+          rw same (filling_blocked c.requires.0 c.loop-u.invariant c.loop-u-test.true c.if-vanishes.false ended);
+    }
 
 pub returns : goal.returns
 returns c =

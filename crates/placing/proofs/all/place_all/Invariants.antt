@@ -1,10 +1,6 @@
 -- `place_all` meets its contract: the nodes below u are seated.
-use Prim.Native.Nat.{◌-◌, ◌<◌}
-use mathlib.Core.Path.{refl}
-use native.Mathlib.Omega.{arith}
-use Rattle.integers.proofs.Words.{bit_zero}
-use Rattle.assignment.proofs.Counts.{differ}
-use Rattle.placing.proofs.Seating.{Filling, filling_none, filling_own, filling_unplaced, filling_more, filling_blocked, filling_done}
+use Prim.Native.Nat.{◌-◌}
+use Rattle.placing.proofs.Seating.{Filling}
 use Rattle.placing.proofs.all.place_all.Given as goal
 
 abbrev pub invariant-loop-u : goal.invariant-loop-u

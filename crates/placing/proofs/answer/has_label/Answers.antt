@@ -1,7 +1,6 @@
 -- `has_label` meets its contract: a word has no label from 64 on.
 use mathlib.Core.Path.{sym}
 use native.Mathlib.Omega.{arith}
-use borrow.Author.Rules.{rules}
 use Rattle.integers.specs.Words.{bit}
 use Rattle.integers.proofs.Places.{by-test}
 use Rattle.integers.proofs.Words.{bit_small}

@@ -4,10 +4,8 @@ use mathlib.Core.Bool.{Bool, cond}
 use mathlib.Core.List.{List}
 use Prim.Native.Nat.{ℕ, ◌≤◌, ◌<◌}
 use native.Mathlib.Omega.{arith}
-use borrow.Author.Rules.{rules}
 use lib.ListN.{length}
 use Rattle.integers.specs.Places.{tabulate}
-use Rattle.integers.specs.Words.{Words}
 use Rattle.instance.specs.Instance.{Instance}
 use Rattle.instance.specs.Readable.{Proper}
 use Rattle.instance.specs.Sheet.{instance_of, refusal_of}

@@ -1,18 +1,11 @@
 -- `write_members` meets its contract: the bytes so far say which nodes are caught.
 -- Assumes nothing.
-use Prim.Native.Nat.{ℕ, ◌+◌, ◌-◌, ◌<◌}
-use mathlib.Core.Path.{◌≡◌, sym, ap, ◌∙◌, subst}
-use mathlib.Core.Bool.{Bool, cond, ◌&&◌, ◌||◌}
+use Prim.Native.Nat.{ℕ, ◌-◌}
+use mathlib.Core.Bool.{cond}
 use mathlib.Core.List.{List}
-use native.Mathlib.Omega.{arith}
-use borrow.Author.Rules.{rules}
-use lib.Dec.{eqb, ltb}
-use lib.ListN.{length, set}
-use mir.Val.{bool_byte}
-use Rattle.integers.specs.Words.{bit}
-use Rattle.integers.proofs.Filling.{Filling, fill_none, fill_more, fill_all}
-use Rattle.placing.specs.Words.{entry, caught}
-use Rattle.placing.proofs.Laying.{byte_is}
+use lib.ListN.{length}
+use Rattle.integers.proofs.Filling.{Filling}
+use Rattle.placing.specs.Words.{caught}
 use Rattle.placing.proofs.answer.write_members.Given as goal
 
 abbrev pub members : ℕ → ℕ → List ℕ → ℕ → ℕ

@@ -1,12 +1,10 @@
 -- `write_positions` meets its contract: the bytes so far are ranks.
 -- Assumes nothing.
-use Prim.Native.Nat.{ℕ, ◌+◌, ◌-◌, ◌<◌}
+use Prim.Native.Nat.{ℕ, ◌+◌, ◌<◌}
 use mathlib.Core.Path.{sym, subst}
-use mathlib.Core.List.{List}
 use native.Mathlib.Omega.{arith}
 use lib.ListN.{length, set}
 use Rattle.integers.proofs.Filling.{Filling, fill_none, fill_more, fill_all}
-use Rattle.placing.specs.Words.{entry, rank}
 use Rattle.placing.proofs.answer.write_positions.Goals as goal
 use Rattle.placing.proofs.answer.write_positions.Invariants.{ranks}
 use Rattle.placing.proofs.answer.write_positions.Goals.{In-loop-u, Start}

@@ -1,11 +1,9 @@
 -- `write_positions` meets its contract: the bytes so far are ranks.
 -- Assumes nothing.
-use Prim.Native.Nat.{ℕ, ◌+◌, ◌-◌, ◌<◌}
-use mathlib.Core.Path.{sym, subst}
+use Prim.Native.Nat.{ℕ, ◌-◌}
 use mathlib.Core.List.{List}
-use native.Mathlib.Omega.{arith}
-use lib.ListN.{length, set}
-use Rattle.integers.proofs.Filling.{Filling, fill_none, fill_more, fill_all}
+use lib.ListN.{length}
+use Rattle.integers.proofs.Filling.{Filling}
 use Rattle.placing.specs.Words.{entry, rank}
 use Rattle.placing.proofs.answer.write_positions.Given as goal
 

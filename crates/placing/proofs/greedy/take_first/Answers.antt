@@ -1,5 +1,5 @@
 -- `take_first` meets its contract: the nodes below u are placed, each as low as it can be.
-use Prim.Native.Nat.{ℕ, ◌+◌, ◌-◌, ◌<◌}
+use Prim.Native.Nat.{ℕ, ◌+◌, ◌<◌}
 use mathlib.Core.Path.{refl, sym, subst}
 use native.Mathlib.Omega.{arith}
 use lib.Bits.{bit_and, bit_xor, and_le_l}

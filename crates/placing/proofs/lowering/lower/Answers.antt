@@ -1,10 +1,9 @@
 -- `lower` meets its contract: each turn is one of `Trying`.
-use Prim.Native.Nat.{ℕ, ◌-◌, ◌^◌, ◌≤◌, ◌<◌}
+use Prim.Native.Nat.{ℕ, ◌^◌, ◌≤◌, ◌<◌}
 use mathlib.Core.Path.{◌≡◌, refl, sym, ap, ◌∙◌, subst, transport}
 use mathlib.Core.Bool.{Bool, true, false}
 use mathlib.Core.List.{List}
 use native.Mathlib.Omega.{arith}
-use borrow.Author.Rules.{rules}
 use borrow.Author.Tests.{ltb-true, ltb-false}
 use lib.Count.{count_trailing_zeros}
 use lib.Dec.{ltb}
@@ -15,7 +14,7 @@ use Rattle.integers.proofs.Words.{lowest, some_bit, bit_only}
 use Rattle.assignment.proofs.Counts.{differ}
 use Rattle.placing.specs.Words.{entry, Linked, Chained, Lowered, Lowest}
 use Rattle.placing.proofs.Linking.{set_back}
-use Rattle.placing.proofs.Settling.{Trying, trying_none, trying_label, trying_unplaced, trying_more, trying_less, lowest_stays, lowest_moves}
+use Rattle.placing.proofs.Settling.{trying_none, trying_label, trying_unplaced, trying_more, trying_less, lowest_stays, lowest_moves}
 use Rattle.placing.proofs.lowering.lower.Goals as goal
 use Rattle.placing.proofs.lowering.lower.Goals.{After-chain-r, After-lowest-l, At-loop-rest, Start}
 

@@ -1,10 +1,6 @@
 -- `lower_all` meets its contract: the nodes below u are where they are to be.
-use Prim.Native.Nat.{◌-◌, ◌<◌}
-use mathlib.Core.Bool.{Bool}
-use mathlib.Core.List.{List}
+use Prim.Native.Nat.{◌<◌}
 use native.Mathlib.Omega.{arith}
-use borrow.Author.Rules.{rules}
-use Rattle.placing.specs.Words.{Linked, Seated, Lowered}
 use Rattle.placing.proofs.Settling.{lowered_none, lowered_more, lowered_done}
 use Rattle.placing.proofs.lowering.lower_all.Goals as goal
 use Rattle.placing.proofs.lowering.lower_all.Goals.{In-loop-u}

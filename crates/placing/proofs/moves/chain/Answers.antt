@@ -38,10 +38,9 @@ returns-then-r c =
 pub returns : goal.returns
 returns c =
     let s = c.search-r.ensures in record {
-  yes = λ e. absurd (differ e refl);
-  no = λ _. (refl, refl, refl, record { by = _; words = _; count = _; trail = s.trail; exhausted = s.no c.if-r.false });
-
-}
+      yes = λ e. absurd (differ e refl);
+      no = λ _. (refl, refl, refl, record { by = _; words = _; count = _; trail = s.trail; exhausted = s.no c.if-r.false });
+    }
 
 pub lowest-l-requires : goal.lowest-l-requires
 lowest-l-requires c = c.if-met-ne0.true

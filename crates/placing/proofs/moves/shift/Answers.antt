@@ -4,7 +4,7 @@ use mathlib.Core.Path.{◌≡◌, sym, ◌∙◌, transport}
 use mathlib.Core.Bool.{true}
 use native.Mathlib.Omega.{arith}
 use Rattle.integers.specs.Words.{bit}
-use Rattle.placing.specs.Words.{entry, Meeting}
+use Rattle.placing.specs.Words.{entry}
 use Rattle.placing.proofs.Moving.{Moving, moving_none, moving_small, moving_past, moving_more, moving_done, shifted_by, from_small, holder_few}
 use Rattle.placing.proofs.moves.shift.Goals as goal
 use Rattle.placing.proofs.moves.shift.Goals.{At-loop-i, Then-has}

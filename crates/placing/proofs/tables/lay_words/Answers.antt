@@ -4,7 +4,6 @@ use Prim.Native.Nat.{ℕ, ◌+◌, ◌-◌, ◌≤◌, ◌<◌}
 use mathlib.Core.Path.{◌≡◌, sym, ap₂, subst}
 use mathlib.Core.List.{List}
 use native.Mathlib.Omega.{arith}
-use borrow.Author.Rules.{rules}
 use lib.ListN.{length, take, drop}
 use Rattle.instance.specs.Instance.{Instance, first}
 use Rattle.instance.specs.Sheet.{instance_of}
@@ -12,7 +11,7 @@ use Rattle.instance.specs.Readable.{Readable}
 use Rattle.instance.proofs.Readable.{readable}
 use Rattle.placing.specs.Words.{entry, Laid}
 use Rattle.placing.specs.Labels.{Labels, Worded}
-use Rattle.placing.proofs.Laying.{Laying, laid_none, laid_more, bytes_of, bytes_inside, bytes_labels}
+use Rattle.placing.proofs.Laying.{laid_none, laid_more, bytes_of, bytes_inside, bytes_labels}
 use Rattle.placing.proofs.tables.lay_words.Goals as goal
 use Rattle.placing.proofs.tables.lay_words.Goals.{After-wide, In-loop-u, Start}
 

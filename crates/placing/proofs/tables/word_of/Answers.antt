@@ -1,9 +1,7 @@
 -- `word_of` meets its contract: the word so far is that of the labels so far.
 -- Assumes nothing.
-use Prim.Native.Nat.{◌-◌, ◌≤◌}
 use mathlib.Core.Path.{◌≡◌, refl, sym, ap, ap₂, ◌∙◌}
 use native.Mathlib.Omega.{arith}
-use borrow.Author.Rules.{rules}
 use lib.Bits.{bit_or}
 use Rattle.integers.specs.Words.{word_of}
 use Rattle.placing.specs.Words.{entry}

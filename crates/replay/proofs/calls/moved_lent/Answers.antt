@@ -1,5 +1,5 @@
 -- `moved_lent` is safe: no part is longer than what it is a part of.
-use Rattle.std.proofs.Common.{sym, arith, length-take-le, rules}
+use Rattle.std.proofs.Common.{sym, arith, length-take-le}
 use Rattle.replay.proofs.calls.moved_lent.Goals as goal
 
 pub slice_bounds-moved-end-2 : goal.slice_bounds-moved-end-2

@@ -1,5 +1,5 @@
 -- `report_lent` is safe: no part is longer than what it is a part of.
-use Rattle.std.proofs.Common.{sym, arith, length-take-le, rules}
+use Rattle.std.proofs.Common.{sym, arith, length-take-le}
 use Rattle.replay.proofs.calls.report_lent.Goals as goal
 
 pub slice_bounds-report-end : goal.slice_bounds-report-end

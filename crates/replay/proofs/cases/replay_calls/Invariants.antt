@@ -1,5 +1,4 @@
 -- `replay_calls` is safe and ends: each turn leaves one call fewer.
-use Rattle.std.proofs.Common.{arith}
 use Rattle.replay.proofs.cases.replay_calls.Given as goal
 
 abbrev pub invariant-loop-left : goal.invariant-loop-left

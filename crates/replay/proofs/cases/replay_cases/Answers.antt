@@ -1,5 +1,4 @@
 -- `replay_cases` is safe and ends: each turn leaves one case fewer.
-use Rattle.std.proofs.Common.{arith}
 use Rattle.replay.proofs.cases.replay_cases.Goals as goal
 
 pub empty-tally-requires : goal.empty-tally-requires

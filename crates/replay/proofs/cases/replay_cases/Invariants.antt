@@ -1,5 +1,4 @@
 -- `replay_cases` is safe and ends: each turn leaves one case fewer.
-use Rattle.std.proofs.Common.{arith}
 use Rattle.replay.proofs.cases.replay_cases.Given as goal
 
 abbrev pub invariant-loop-left : goal.invariant-loop-left

@@ -1,5 +1,5 @@
 -- `add_words` meets its contract: the hash stays below the modulus.
-use Rattle.std.proofs.Common.{◌-◌, ◌<◌, length, rules}
+use Rattle.std.proofs.Common.{◌-◌, ◌<◌, length}
 use Rattle.replay.proofs.hash.add_words.Given as goal
 
 abbrev pub invariant-loop-i : goal.invariant-loop-i

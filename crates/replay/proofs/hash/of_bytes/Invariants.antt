@@ -1,5 +1,5 @@
 -- `of_bytes` meets its contract: the hash stays below the modulus.
-use Rattle.std.proofs.Common.{◌-◌, ◌<◌, length, rules}
+use Rattle.std.proofs.Common.{◌-◌, ◌<◌, length}
 use Rattle.replay.proofs.hash.of_bytes.Given as goal
 
 abbrev pub invariant-loop-i : goal.invariant-loop-i

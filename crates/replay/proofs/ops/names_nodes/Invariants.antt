@@ -1,5 +1,5 @@
 -- `names_nodes` is safe and ends.
-use Rattle.std.proofs.Common.{◌-◌, length, rules}
+use Rattle.std.proofs.Common.{◌-◌, length}
 use Rattle.replay.proofs.ops.names_nodes.Given as goal
 
 abbrev pub invariant-loop-i : goal.invariant-loop-i

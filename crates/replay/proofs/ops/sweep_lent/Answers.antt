@@ -1,5 +1,5 @@
 -- `sweep_lent` is safe: the part is no longer than what it is a part of.
-use Rattle.std.proofs.Common.{sym, arith, length-take-le, rules}
+use Rattle.std.proofs.Common.{sym, arith, length-take-le}
 use Rattle.replay.proofs.ops.sweep_lent.Goals as goal
 
 pub slice_bounds-write_sweep-end-2 : goal.slice_bounds-write_sweep-end-2

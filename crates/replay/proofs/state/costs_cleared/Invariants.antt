@@ -1,5 +1,5 @@
 -- `costs_cleared` is safe and ends.
-use Rattle.std.proofs.Common.{◌-◌, rules}
+use Rattle.std.proofs.Common.{◌-◌}
 use Rattle.replay.proofs.state.costs_cleared.Given as goal
 
 abbrev pub invariant-loop-i : goal.invariant-loop-i

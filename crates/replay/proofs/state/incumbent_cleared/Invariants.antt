@@ -1,5 +1,5 @@
 -- `incumbent_cleared` is safe and ends.
-use Rattle.std.proofs.Common.{◌-◌, rules}
+use Rattle.std.proofs.Common.{◌-◌}
 use Rattle.replay.proofs.state.incumbent_cleared.Given as goal
 
 abbrev pub invariant-loop-i : goal.invariant-loop-i

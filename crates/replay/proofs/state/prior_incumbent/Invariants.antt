@@ -1,5 +1,5 @@
 -- `prior_incumbent` is safe and ends.
-use Rattle.std.proofs.Common.{◌-◌, rules}
+use Rattle.std.proofs.Common.{◌-◌}
 use Rattle.replay.proofs.state.prior_incumbent.Given as goal
 
 abbrev pub invariant-loop-i : goal.invariant-loop-i

@@ -1,6 +1,5 @@
 -- `add_cost` meets its contract, and each cast is of a number that is not negative.
 use Rattle.replay.proofs.CostLaws.{plain, turned}
-use Rattle.std.proofs.Common.{rules}
 use Rattle.replay.proofs.state_hash.add_cost.Goals as goal
 
 pub overflow_cast-cost : goal.overflow_cast-cost

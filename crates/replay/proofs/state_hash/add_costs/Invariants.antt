@@ -1,5 +1,5 @@
 -- `add_costs` meets its contract: the hash stays below the modulus.
-use Rattle.std.proofs.Common.{◌-◌, ◌<◌, rules}
+use Rattle.std.proofs.Common.{◌-◌, ◌<◌}
 use Rattle.replay.proofs.state_hash.add_costs.Given as goal
 
 abbrev pub invariant-loop-i : goal.invariant-loop-i

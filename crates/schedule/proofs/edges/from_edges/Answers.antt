@@ -1,12 +1,12 @@
 -- `from_edges` meets its contract: a record for each edge of the row.
 use mathlib.Core.Path.{◌≡◌, sym, ap}
 use mathlib.Core.List.{List, ◌∷◌, map}
-use Prim.Native.Nat.{ℕ, ◌+◌, ◌-◌, ◌≤◌, ◌<◌}
+use Prim.Native.Nat.{ℕ, ◌+◌, ◌<◌}
 use native.Mathlib.Omega.{arith}
 use Rattle.index.specs.Index.{many as many_of}
-use Rattle.schedule.specs.Sweep.{Entry, entry, from_edges}
-use Rattle.schedule.specs.Writing.{Writing, received}
-use Rattle.schedule.proofs.WritingLaws.{length-received, room_as, writing_start, writing_as, writing_size, turn_room, turn_more, rest, rest_start, rest_more, rest_end}
+use Rattle.schedule.specs.Sweep.{from_edges}
+use Rattle.schedule.specs.Writing.{received}
+use Rattle.schedule.proofs.WritingLaws.{length-received, room_as, writing_start, writing_as, turn_room, turn_more, rest, rest_start, rest_more, rest_end}
 use Rattle.schedule.proofs.edges.from_edges.Goals as goal
 use Rattle.schedule.proofs.edges.from_edges.Invariants.{f}
 use Rattle.schedule.proofs.edges.from_edges.Goals.{After-thing, In-loop-j, Start}

@@ -1,12 +1,12 @@
 -- `to_edges` meets its contract: a record for each edge of the row, with a share for each that is left.
 use mathlib.Core.Path.{◌≡◌, sym, ap, ap₂, ◌∙◌}
 use mathlib.Core.List.{List, ◌∷◌}
-use Prim.Native.Nat.{ℕ, ◌+◌, ◌-◌, ◌≤◌, ◌<◌}
+use Prim.Native.Nat.{ℕ, ◌+◌, ◌-◌, ◌<◌}
 use native.Mathlib.Omega.{arith}
 use Rattle.index.specs.Index.{many as many_of}
 use Rattle.schedule.specs.Sweep.{Entry, entry, to_edges}
-use Rattle.schedule.specs.Writing.{Writing, sent}
-use Rattle.schedule.proofs.WritingLaws.{length-sent, room_as, writing_start, writing_as, writing_size, turn_room, turn_more, rest, rest_start, rest_end, shares_more}
+use Rattle.schedule.specs.Writing.{sent}
+use Rattle.schedule.proofs.WritingLaws.{length-sent, room_as, writing_start, writing_as, turn_room, turn_more, rest, rest_start, rest_end, shares_more}
 use Rattle.schedule.proofs.edges.to_edges.Goals as goal
 use Rattle.schedule.proofs.edges.to_edges.Goals.{After-thing, In-loop-j, Start}
 

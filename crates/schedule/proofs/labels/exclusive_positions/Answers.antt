@@ -1,7 +1,6 @@
 -- `exclusive_positions` meets its contract: all of a node's positions, or all but the last.
 use mathlib.Core.Path.{◌≡◌, sym, ap, ◌∙◌}
 use Prim.Native.Nat.{◌-◌}
-use borrow.Author.Rules.{rules}
 use Rattle.integers.proofs.Places.{if-true, if-false}
 use Rattle.instance.specs.Bytes.{byte}
 use Rattle.instance.specs.Instance.{exclusive}

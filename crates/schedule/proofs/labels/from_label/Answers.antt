@@ -1,13 +1,12 @@
 -- `from_label` meets its contract: a record for each place of the row.
 use mathlib.Core.Path.{◌≡◌, sym, ap, ◌∙◌}
 use mathlib.Core.List.{List, ◌∷◌, map}
-use Prim.Native.Nat.{ℕ, ◌+◌, ◌-◌, ◌/◌, ◌%◌, ◌≤◌, ◌<◌}
+use Prim.Native.Nat.{ℕ, ◌+◌, ◌/◌, ◌%◌, ◌<◌}
 use native.Mathlib.Omega.{arith}
-use borrow.Author.Rules.{rules}
 use Rattle.index.specs.Index.{many as many_of}
 use Rattle.schedule.specs.Sweep.{entry}
-use Rattle.schedule.specs.Writing.{Writing, spotted, label_by}
-use Rattle.schedule.proofs.WritingLaws.{length_label, room_as, writing_start, writing_as, writing_size, turn_room, turn_more, rest, rest_start, rest_more, rest_end}
+use Rattle.schedule.specs.Writing.{spotted, label_by}
+use Rattle.schedule.proofs.WritingLaws.{length_label, room_as, writing_start, writing_as, turn_room, turn_more, rest, rest_start, rest_more, rest_end}
 use Rattle.schedule.proofs.labels.from_label.Goals as goal
 use Rattle.schedule.proofs.labels.from_label.Goals.{After-number-spot, After-thing-place, In-loop-j, Start}
 

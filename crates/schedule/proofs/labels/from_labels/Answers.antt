@@ -1,10 +1,10 @@
 -- `from_labels` meets its contract: a list for each label, falling.
 use mathlib.Core.List.{List}
-use Prim.Native.Nat.{ℕ, ◌+◌, ◌-◌, ◌≤◌}
+use Prim.Native.Nat.{ℕ, ◌+◌, ◌-◌}
 use native.Mathlib.Omega.{arith}
-use Rattle.schedule.specs.Sweep.{Entry, each, falling}
-use Rattle.schedule.specs.Writing.{Writing, label_by}
-use Rattle.schedule.proofs.WritingLaws.{length_label, room_as, downward, downward_start, downward_more, downward_end, writing_size, each_start, each_room, each_more, each_end}
+use Rattle.schedule.specs.Sweep.{Entry}
+use Rattle.schedule.specs.Writing.{label_by}
+use Rattle.schedule.proofs.WritingLaws.{length_label, room_as, downward_start, downward_more, downward_end, each_start, each_room, each_more, each_end}
 use Rattle.schedule.proofs.labels.from_labels.Goals as goal
 use Rattle.schedule.proofs.labels.from_labels.Goals.{Start}
 

@@ -3,7 +3,6 @@ use Prim.Native.Nat.{ℕ, ◌+◌}
 use mathlib.Core.Path.{subst, refl, sym}
 use lib.ListN.{set}
 use mathlib.Core.Path.{◌≡◌}
-use Prim.Native.Nat.{◌-◌, ◌≤◌}
 use native.Mathlib.Omega.{arith}
 use Rattle.schedule.specs.Writing.{Marked}
 use Rattle.schedule.proofs.SpotLaws.{marked_none, marked_more}

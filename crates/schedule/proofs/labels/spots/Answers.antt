@@ -1,8 +1,7 @@
 -- `spots` meets its contract: one node after another.
 use mathlib.Core.Path.{◌≡◌, sym, ◌∙◌, subst}
-use Prim.Native.Nat.{ℕ, ◌+◌, ◌-◌, ◌≤◌}
+use Prim.Native.Nat.{ℕ, ◌+◌}
 use native.Mathlib.Omega.{arith}
-use borrow.Author.Rules.{rules}
 use Rattle.integers.specs.Places.{offset}
 use Rattle.integers.proofs.Totals.{offset_le, offset_more, offset_none}
 use Rattle.instance.specs.Bytes.{byte}

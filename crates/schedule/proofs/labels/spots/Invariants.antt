@@ -1,13 +1,9 @@
 -- `spots` meets its contract: one node after another.
-use mathlib.Core.Path.{◌≡◌, sym, ◌∙◌, subst}
-use Prim.Native.Nat.{ℕ, ◌+◌, ◌-◌, ◌≤◌}
-use native.Mathlib.Omega.{arith}
-use borrow.Author.Rules.{rules}
+use mathlib.Core.Path.{◌≡◌}
+use Prim.Native.Nat.{◌-◌, ◌≤◌}
 use Rattle.integers.specs.Places.{offset}
-use Rattle.integers.proofs.Totals.{offset_le, offset_more, offset_none}
 use Rattle.instance.specs.Bytes.{byte}
 use Rattle.schedule.specs.Writing.{Spots}
-use Rattle.schedule.proofs.SpotLaws.{spots_none, spots_more}
 use Rattle.schedule.proofs.labels.spots.Given as goal
 
 abbrev pub invariant-loop-u : goal.invariant-loop-u

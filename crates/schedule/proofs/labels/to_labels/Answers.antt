@@ -1,12 +1,10 @@
 -- `to_labels` meets its contract: a record for each position.
 use mathlib.Core.Path.{sym, ap}
 use mathlib.Core.List.{map}
-use Prim.Native.Nat.{ℕ, ◌-◌, ◌≤◌}
 use native.Mathlib.Omega.{arith}
 use Rattle.integers.specs.Places.{range}
-use Rattle.schedule.specs.Sweep.{Entry, entry, to_labels}
-use Rattle.schedule.specs.Writing.{Writing}
-use Rattle.schedule.proofs.WritingLaws.{length-to_labels, room_as, onward, onward_start, onward_more, onward_end, writing_start, writing_as, writing_size, turn_room, turn_more}
+use Rattle.schedule.specs.Sweep.{to_labels}
+use Rattle.schedule.proofs.WritingLaws.{length-to_labels, room_as, onward_start, onward_more, onward_end, writing_start, writing_as, turn_room, turn_more}
 use Rattle.schedule.proofs.labels.to_labels.Goals as goal
 use Rattle.schedule.proofs.labels.to_labels.Invariants.{f}
 

@@ -1,6 +1,5 @@
 -- `put` meets its contract: five stores.
 use native.Mathlib.Omega.{arith}
-use borrow.Author.Rules.{rules}
 use lib.ListN.{length-set}
 use Rattle.schedule.proofs.WritingLaws.{five}
 use Rattle.schedule.proofs.put.put.Goals as goal

@@ -10,7 +10,6 @@ use Rattle.schedule.specs.Sweep.{Entry, each, falling, rounding, label_at, backw
 use Rattle.schedule.specs.Writing.{Room, backward_by}
 use Rattle.schedule.proofs.WritingLaws.{room_as, room_whole, room_left, room_right, writing_for, wrote_append, wrote_all}
 use Rattle.schedule.proofs.IndexedSheet.{nodes_few_lem, higher_indexed, lower_rows, higher_rows, backward_nodes}
-use borrow.Author.Rules.{rules}
 use Rattle.schedule.proofs.sweep.backward.Goals as goal
 use Rattle.schedule.proofs.sweep.backward.Goals.{After-edges_by-higher, Start}
 

@@ -4,7 +4,6 @@ use native.Mathlib.Omega.{arith}
 use Rattle.schedule.specs.Sweep.{Entry}
 use Rattle.schedule.specs.Writing.{received, sent}
 use Rattle.schedule.proofs.WritingLaws.{length-received, length-sent, room_as, room_left, room_right, wrote_append}
-use borrow.Author.Rules.{rules}
 use Rattle.schedule.proofs.sweep.backward_at.Goals as goal
 use Rattle.schedule.proofs.sweep.backward_at.Goals.{Start}
 

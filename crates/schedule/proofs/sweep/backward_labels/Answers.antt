@@ -10,7 +10,6 @@ use Rattle.schedule.specs.Sweep.{each, falling, label_at}
 use Rattle.schedule.specs.Writing.{label_by}
 use Rattle.schedule.proofs.WritingLaws.{room_as, writing_for}
 use Rattle.schedule.proofs.IndexedSheet.{sizes, nodes_few_lem, node_bytes, label_bytes, labels-64, places_few, places_indexed, place_rows, label_lists}
-use borrow.Author.Rules.{rules}
 use Rattle.schedule.proofs.sweep.backward_labels.Goals as goal
 use Rattle.schedule.proofs.sweep.backward_labels.Goals.{After-spots-spots, Start}
 

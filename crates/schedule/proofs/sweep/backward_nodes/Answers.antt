@@ -1,10 +1,10 @@
 -- `backward_nodes` meets its contract: a list for each node, falling.
 use mathlib.Core.List.{List}
-use Prim.Native.Nat.{ℕ, ◌-◌, ◌≤◌}
+use Prim.Native.Nat.{ℕ}
 use native.Mathlib.Omega.{arith}
-use Rattle.schedule.specs.Sweep.{Entry, each, falling}
-use Rattle.schedule.specs.Writing.{Writing, backward_by}
-use Rattle.schedule.proofs.WritingLaws.{downward, downward_start, downward_more, downward_end, writing_size, each_start, each_room, each_more, each_end}
+use Rattle.schedule.specs.Sweep.{Entry}
+use Rattle.schedule.specs.Writing.{backward_by}
+use Rattle.schedule.proofs.WritingLaws.{downward_start, downward_more, downward_end, each_start, each_room, each_more, each_end}
 use Rattle.schedule.proofs.sweep.backward_nodes.Goals as goal
 use Rattle.schedule.proofs.sweep.backward_nodes.Goals.{Start}
 

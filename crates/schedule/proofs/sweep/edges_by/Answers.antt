@@ -5,7 +5,6 @@ use native.Mathlib.Omega.{arith}
 use lib.ListN.{take, drop}
 use Rattle.index.specs.Index.{index_of}
 use Rattle.schedule.proofs.IndexedSheet.{sizes, end_bytes}
-use borrow.Author.Rules.{rules}
 use Rattle.schedule.proofs.sweep.edges_by.Goals as goal
 
 pub overflow_mul-from : goal.overflow_mul-from

@@ -11,7 +11,6 @@ use Rattle.schedule.specs.Sweep.{Entry, each, rounding, forward_at, forward}
 use Rattle.schedule.specs.Writing.{Room, forward_of}
 use Rattle.schedule.proofs.WritingLaws.{room_as, room_whole, room_left, room_right, writing_for, wrote_append, wrote_all}
 use Rattle.schedule.proofs.IndexedSheet.{nodes_inside, higher_indexed, lower_rows, higher_rows, forward_nodes}
-use borrow.Author.Rules.{rules}
 use Rattle.schedule.proofs.sweep.forward.Goals as goal
 use Rattle.schedule.proofs.sweep.forward.Goals.{After-edges_by-higher, Start}
 

@@ -5,7 +5,6 @@ use Rattle.integers.specs.Places.{range}
 use Rattle.schedule.specs.Sweep.{Entry, to_labels}
 use Rattle.schedule.specs.Writing.{received, sent}
 use Rattle.schedule.proofs.WritingLaws.{length-to_labels, length-received, length-sent, room_as, room_left, room_right, wrote_append}
-use borrow.Author.Rules.{rules}
 use Rattle.schedule.proofs.sweep.forward_at.Goals as goal
 use Rattle.schedule.proofs.sweep.forward_at.Goals.{Start}
 

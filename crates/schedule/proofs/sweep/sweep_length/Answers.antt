@@ -2,7 +2,6 @@
 use mathlib.Core.Path.{sym, ◌∙◌}
 use mathlib.Core.List.{List}
 use Prim.Native.Nat.{ℕ}
-use borrow.Author.Rules.{rules}
 use Rattle.instance.proofs.LaidOut.{refusal_is}
 use Rattle.schedule.proofs.Written.{room_none, room_is}
 use Rattle.schedule.proofs.IndexedSheet.{handed}

@@ -1,7 +1,6 @@
 -- `direction_of` meets its contract, by the tests that the text passed.
 -- Assumes nothing.
 use mathlib.Core.Path.{sym, ◌∙◌}
-use borrow.Author.Rules.{rules}
 use borrow.Author.Tests.{eq-eqb, ne_eqb}
 use Rattle.integers.proofs.Places.{if-true, if-false}
 use Rattle.sweep.specs.Swept.{direction_of}

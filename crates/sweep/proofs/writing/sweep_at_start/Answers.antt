@@ -8,7 +8,6 @@ use lib.ListN.{length, take, drop, length-append}
 use lib.Seq.{length-take-le, take_at}
 use Rattle.schedule.proofs.Written.{room_few}
 use Rattle.sweep.proofs.SweepLaws.{Left, left, written_all, written_none}
-use borrow.Author.Rules.{rules}
 use Rattle.sweep.proofs.writing.sweep_at_start.Goals as goal
 use Rattle.sweep.proofs.writing.sweep_at_start.Goals.{After-sweep_length-count, After-write_sweep-refusal, Start}
 
