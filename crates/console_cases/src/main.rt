@@ -12,8 +12,8 @@ fn heading<R: Print>(rt: &R, name: &str) -> io::Result<()> {
 // The program, with its records from a file; without one where it is missing.
 fn run_files<R: Files + Print>(rt: &R, sheet_name: &str, records_name: &str) -> io::Result<()> {
     match fs::open(rt, records_name) {
-        Ok(mut records) => terminal::run(rt, sheet_name, &mut records),
-        Err(_) => terminal::run(rt, sheet_name, &mut io::empty()),
+        Ok(mut records) => terminal::run(rt, sheet_name.as_bytes(), &mut records),
+        Err(_) => terminal::run(rt, sheet_name.as_bytes(), &mut io::empty()),
     }
 }
 

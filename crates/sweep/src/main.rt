@@ -44,7 +44,7 @@ fn write(rt: &HostRuntime, sheet: &[u8], direction: u8) -> io::Result<()> {
 
 fn main(rt: HostRuntime) -> io::Result<()> {
     let mut sheet = console::sheet_buffer();
-    let bytes = terminal::read_file(&rt, "sheet.msh", &mut sheet);
+    let bytes = terminal::read_file(&rt, b"sheet.msh", &mut sheet);
     let mut text = [0u8; 2];
     let length = argument(&rt, &mut text);
     write(&rt, &sheet[..bytes], direction_of(&text[..length]))

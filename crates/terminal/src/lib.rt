@@ -23,10 +23,20 @@ pub fn read_full<R: Read>(reader: &mut R, buffer: &mut [u8]) -> usize
 }
 
 // Reads a file to the buffer's end, and answers how many bytes it has. One that is missing or cannot be read is empty.
-pub fn read_file<R: Files>(rt: &R, name: &str, buffer: &mut [u8]) -> usize
+pub fn read_file<R: Files>(rt: &R, name: &[u8], buffer: &mut [u8]) -> usize
     ensures { (result ≤ length buffer.new) × (result ≡ length (take result buffer.new)) }
 {
-    match fs::open(rt, name) {
+    match str::from_utf8(name) {
+        Ok(path) => read_path(rt, path, buffer),
+        Err(_) => 0,
+    }
+}
+
+// The same of a file whose name is text.
+fn read_path<R: Files>(rt: &R, path: &str, buffer: &mut [u8]) -> usize
+    ensures { (result ≤ length buffer.new) × (result ≡ length (take result buffer.new)) }
+{
+    match fs::open(rt, path) {
         Ok(mut file) => read_full(&mut file, buffer),
         Err(_) => 0,
     }
@@ -47,7 +57,11 @@ pub fn print_refusal<W: Write>(to: &mut W, refusal: u8) -> io::Result<()> {
 }
 
 // The whole program: the sheet of a file, and the records of a reader.
-pub fn run<R: Files + Print, I: Read>(rt: &R, sheet_name: &str, records: &mut I) -> io::Result<()> {
+pub fn run<R: Files + Print, I: Read>(
+    rt: &R,
+    sheet_name: &[u8],
+    records: &mut I,
+) -> io::Result<()> {
     let mut sheet = console::sheet_buffer();
     let bytes = read_file(rt, sheet_name, &mut sheet);
     let mut list = console::record_buffer();
