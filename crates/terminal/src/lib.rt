@@ -5,7 +5,7 @@
 ghost use Rattle.std.specs.Prelude.{◌≡◌, ◌≤◌, length, take};
 
 use std::fs::{self, Files};
-use std::io::{self, Eprint, Print, Read, Write};
+use std::io::{self, Print, Read, Write};
 
 // Reads to the buffer's end, the input's or the first read that fails, and answers how many bytes there are.
 pub fn read_full<R: Read>(reader: &mut R, buffer: &mut [u8]) -> usize
