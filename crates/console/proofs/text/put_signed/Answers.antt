@@ -14,7 +14,7 @@ use Rattle.console.specs.Decimal.{decimal, signed}
 use Rattle.console.proofs.DecimalLaws.{length_magnitude, signed_below, signed_above}
 use Rattle.console.proofs.PutLaws.{put_as, put_byte, put_then}
 use Rattle.console.proofs.text.put_signed.Goals as goal
-use Rattle.console.proofs.text.put_signed.Goals.{After-magnitude, After-magnitude-2, After-slice_known-2-1, After-slice_known-then-z-lt0-1, Start}
+use Rattle.console.proofs.text.put_signed.Goals.{After-magnitude, After-magnitude-2, After-put_decimal-2, After-put_decimal, Start}
 
 -- the magnitude has at most 19 digits
 few1 : (c : After-magnitude) → length (decimal c.magnitude.result) ≤ 19
@@ -23,9 +23,9 @@ few1 c = rw (c.magnitude.ensures, to_z-of_z c.ranges.z) (length_magnitude c.rang
 few2 : (c : After-magnitude-2) → length (decimal c.magnitude-2.result) ≤ 19
 few2 c = rw (c.magnitude-2.ensures, to_z-of_z c.ranges.z) (length_magnitude c.ranges.z)
 
-module _ (c : After-slice_known-then-z-lt0-1) where
+module _ (c : After-put_decimal) where
   abbrev s1 : Start
-  s1 = (goal.at.After-slice_known-then-z-lt0-1 c).Start
+  s1 = (goal.at.After-put_decimal c).Start
 
   below : s1.args.z <ℤ pos 0
   below = let t = c.if-z-lt0.true in omega (linear, read s1.ranges.z)
@@ -33,9 +33,9 @@ module _ (c : After-slice_known-then-z-lt0-1) where
   text1 : 45 ∷ decimal c.magnitude.result ≡ signed s1.args.z
   text1 = ap (λ (n : ℕ). 45 ∷ decimal n) (c.magnitude.ensures ∙ ap nat_abs (to_z-of_z s1.ranges.z)) ∙ sym (signed_below s1.args.z below)
 
-module _ (c : After-slice_known-2-1) where
+module _ (c : After-put_decimal-2) where
   abbrev s2 : Start
-  s2 = (goal.at.After-slice_known-2-1 c).Start
+  s2 = (goal.at.After-put_decimal-2 c).Start
 
   above : pos 0 ≤ℤ s2.args.z
   above = let t = c.if-z-lt0.false in omega (linear, read s2.ranges.z)
@@ -49,9 +49,10 @@ put_decimal-requires c = simp length-set (omega (arith, few1 c))
 pub returns-then-z-lt0 : goal.returns-then-z-lt0
 returns-then-z-lt0 c =
     let q = c.put_decimal.ensures in
+    let at = (goal.at.returns-then-z-lt0 c).After-put_decimal in
     let few = few1 (goal.at.returns-then-z-lt0 c).After-magnitude in
-    let p = put_byte (s1 c).args.at 45 (s1 c).args.out.now (omega (arith, (s1 c).requires)) in
-    (put_as (text1 c) (put_then (omega (arith, (s1 c).requires)) p q), omega (arith, q.after))
+    let p = put_byte (s1 at).args.at 45 (s1 at).args.out.now (omega (arith, (s1 at).requires)) in
+    (put_as (text1 at) (put_then (omega (arith, (s1 at).requires)) p q), omega (arith, q.after))
 
 pub put_decimal-requires-2 : goal.put_decimal-requires-2
 put_decimal-requires-2 c = omega (arith, few2 c)
@@ -60,4 +61,4 @@ pub returns : goal.returns
 returns c =
     let q = c.put_decimal-2.ensures in
     let few = few2 (goal.at.returns c).After-magnitude-2 in
-    (put_as (text2 c) q, omega (arith, q.after))
+    (put_as (text2 (goal.at.returns c).After-put_decimal-2) q, omega (arith, q.after))

@@ -1,5 +1,5 @@
 -- `label_leasts` meets its contract: the places are gone through, each label's least kept in its place.
-use Rattle.std.proofs.Common.{◌≡◌, length, get_or, pos, ap, ◌∙◌, ap₂, arith}
+use Rattle.std.proofs.Common.{◌≡◌, length, get_or, pos, ap, ◌∙◌, ap₂, arith, to_z-of_z, w64, rules}
 use Rattle.integers.specs.Least.{min_ℤ}
 use Rattle.integers.proofs.Bits.{same}
 use Rattle.instance.specs.Sheet.{instance_of}
@@ -32,7 +32,7 @@ loop-i-preserved c =
     let y = get_or c.loop-i.least c.label_at-l.result (pos 0) in (
       omega arith,
       leasts_turn (instance_of a.sheet.now) a.labels.now c.loop-i.invariant.1 c.label_at-l.ensures.0 c.label_at-l.ensures.1
-          (same c.smaller.result c.smaller.type_inv ∙ c.smaller.ensures ∙ ap₂ min_ℤ (same x c.smaller-arg-1.given) (same y c.smaller-arg-in-loop-i-1.given)),
+          (same c.smaller.result c.smaller.type_inv ∙ c.smaller.ensures ∙ ap₂ min_ℤ (to_z-of_z {w = w64} {z = x} (search rules)) (to_z-of_z {w = w64} {z = y} (search rules))),
     )
 
 pub returns : goal.returns

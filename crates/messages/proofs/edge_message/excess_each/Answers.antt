@@ -1,15 +1,14 @@
 -- `excess_each` meets its contract: what each cell gives is joined.
-use Rattle.std.proofs.Common.{get_or, ℤ, pos, ◌+ℤ◌, ◌∙◌, ap₂}
+use Rattle.std.proofs.Common.{get_or, ℤ, pos, ◌+ℤ◌, ◌∙◌, ap₂, to_z-of_z, w64, rules}
 use Rattle.integers.specs.Checks.{within}
-use Rattle.integers.proofs.Bits.{same}
 use Rattle.messages.proofs.ExcessLaws.{joining_none, joining_more, joining_shifted}
 use Rattle.messages.proofs.edge_message.excess_each.Goals as goal
 
 pub excess_with-all-requires : goal.excess_with-all-requires
 excess_with-all-requires c =
     let k = c.loop-k.k in (
-      rw (same (get_or c.args.line.now k (pos 0)) c.excess_with-arg-1.given) (c.requires.within k),
-      rw (same (get_or c.args.amounts.now k (pos 0)) c.excess_with-arg-in-loop-k-1.given) (c.requires.within_2.0 k),
+      rw (to_z-of_z {w = w64} {z = get_or c.args.line.now k (pos 0)} (search rules)) (c.requires.within k),
+      rw (to_z-of_z {w = w64} {z = get_or c.args.amounts.now k (pos 0)} (search rules)) (c.requires.within_2.0 k),
       c.requires.within_2.1,
     )
 
@@ -18,7 +17,7 @@ loop-k-preserved c =
     let k = c.loop-k.k in
     joining_more c.excess_with-all.result c.loop-k.invariant c.loop-k-test.true
     (c.excess_with-all.ensures
-    ∙ ap₂ (λ (x y : ℤ). within c.args.limit (x +ℤ y)) (same (get_or c.args.line.now k (pos 0)) c.excess_with-arg-1.given) (same (get_or c.args.amounts.now k (pos 0)) c.excess_with-arg-in-loop-k-1.given))
+    ∙ ap₂ (λ (x y : ℤ). within c.args.limit (x +ℤ y)) (to_z-of_z {w = w64} {z = get_or c.args.line.now k (pos 0)} (search rules)) (to_z-of_z {w = w64} {z = get_or c.args.amounts.now k (pos 0)} (search rules)))
 
 pub loop-k-init : goal.loop-k-init
 loop-k-init c = joining_none _ _

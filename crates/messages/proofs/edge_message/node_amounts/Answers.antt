@@ -1,8 +1,8 @@
 -- `node_amounts` meets its contract. The loop's invariant: the first k places hold what those positions give, and the others 0.
-use Rattle.std.proofs.Common.{◌≡◌, get_or, ℤ, pos, ◌-ℤ◌, ◌∙◌, ap₂, w64, to_z, of_z}
+use Rattle.std.proofs.Common.{◌≡◌, get_or, ℤ, pos, ◌-ℤ◌, ◌∙◌, ap₂, w64, to_z, of_z, to_z-of_z, rules}
 use Rattle.integers.specs.Least.{least_of}
 use Rattle.integers.specs.Share.{share}
-use Rattle.integers.proofs.Bits.{same, answer}
+use Rattle.integers.proofs.Bits.{answer}
 use Rattle.rules.specs.Calls.{cost_limit}
 use Rattle.messages.proofs.RowLaws.{least_of_within}
 use Rattle.messages.proofs.OverLaws.{written_none, written_more, written_all}
@@ -18,13 +18,13 @@ pub share_of-requires : goal.share_of-requires
 share_of-requires c =
     let l = c.args.row.now in
     let k = c.loop-k.k in
-    record { le_r = c.requires.le_share; cost_bound = rw (low (goal.at.share_of-requires c).After-least_of-low, same (get_or l k (pos 0)) c.share_of-arg-1.given) (c.requires.within k, least_of_within cost_limit l c.requires.within) }
+    record { le_r = c.requires.le_share; cost_bound = rw (low (goal.at.share_of-requires c).After-least_of-low, to_z-of_z {w = w64} {z = get_or l k (pos 0)} (search rules)) (c.requires.within k, least_of_within cost_limit l c.requires.within) }
 
 pub loop-k-preserved : goal.loop-k-preserved
 loop-k-preserved c =
     written_more c.loop-k.invariant c.loop-k-test.true
     (answer c.share_of.type_inv c.share_of.ensures
-    ∙ ap₂ (λ (x b : ℤ). share (x -ℤ b) c.args.share) (same (get_or c.args.row.now c.loop-k.k (pos 0)) c.share_of-arg-1.given) (low (goal.at.loop-k-preserved c).After-least_of-low))
+    ∙ ap₂ (λ (x b : ℤ). share (x -ℤ b) c.args.share) (to_z-of_z {w = w64} {z = get_or c.args.row.now c.loop-k.k (pos 0)} (search rules)) (low (goal.at.loop-k-preserved c).After-least_of-low))
 
 pub returns : goal.returns
 returns c =

@@ -1,6 +1,5 @@
 -- `raise_each` meets its contract. The loop's invariant: the first k cells have received their amounts, and the others are as they were.
-use Rattle.std.proofs.Common.{ℕ, get_or, ℤ, pos, arith, rules}
-use Rattle.integers.proofs.Bits.{same}
+use Rattle.std.proofs.Common.{ℕ, get_or, ℤ, pos, arith, rules, to_z-of_z, w64}
 use Rattle.messages.proofs.OverLaws.{written_none, written_length, raised_fits, raised_more, raised_all}
 use Rattle.messages.proofs.edge_message.raise_each.Goals as goal
 use Rattle.messages.proofs.edge_message.raise_each.Goals.{Start}
@@ -12,11 +11,11 @@ f q j = get_or q.args.amounts.now j (pos 0)
 pub add_at-requires : goal.add_at-requires
 add_at-requires c =
     let q = (goal.at.add_at-requires c).Start in let k = c.loop-k.k in
-    record { k_in_bounds = search rules; fits_signed = raised_fits (f q) c.loop-k.invariant c.requires.within _ (rw (same (f q k) c.add_at-arg-in-loop-k-1.given) (c.requires.within_2 k)) }
+    record { k_in_bounds = search rules; fits_signed = raised_fits (f q) c.loop-k.invariant c.requires.within _ (rw (to_z-of_z {w = w64} {z = f q k} (search rules)) (c.requires.within_2 k)) }
 
 pub loop-k-preserved : goal.loop-k-preserved
 loop-k-preserved c =
-    raised_more (f (goal.at.loop-k-preserved c).Start) c.loop-k.invariant c.loop-k-test.true (same (f (goal.at.loop-k-preserved c).Start c.loop-k.k) c.add_at-arg-in-loop-k-1.given) c.add_at.ensures
+    raised_more (f (goal.at.loop-k-preserved c).Start) c.loop-k.invariant c.loop-k-test.true (to_z-of_z {w = w64} {z = f (goal.at.loop-k-preserved c).Start c.loop-k.k} (search rules)) c.add_at.ensures
 
 pub loop-k-init : goal.loop-k-init
 loop-k-init c = written_none _ _ _ (omega arith)

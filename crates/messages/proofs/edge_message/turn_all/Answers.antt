@@ -1,6 +1,6 @@
 -- `turn_all` meets its contract. The loop's invariant: the first k places hold what is given, and the others are as they were.
-use Rattle.std.proofs.Common.{get_or, ℤ, pos, ap, ◌∙◌, arith, to_z-of_z, w64, to_z, of_z}
-use Rattle.integers.proofs.Bits.{same, answer}
+use Rattle.std.proofs.Common.{get_or, ℤ, pos, ap, ◌∙◌, arith, to_z-of_z, w64, to_z, of_z, rules}
+use Rattle.integers.proofs.Bits.{answer}
 use Rattle.messages.specs.EdgeMessage.{over, turned_least}
 use Rattle.messages.proofs.OverLaws.{written_none, written_next, written_more, written_all}
 use Rattle.messages.proofs.edge_message.turn_all.Goals as goal
@@ -8,13 +8,13 @@ use Rattle.messages.proofs.edge_message.turn_all.Goals as goal
 pub turned_least-requires : goal.turned_least-requires
 turned_least-requires c =
     let k = c.loop-k.k in
-    record { le_r = c.requires.le_share.0; cost_bound = rw (to_z-of_z c.ranges.low, same (get_or c.loop-k.least k (pos 0)) c.turned_least-arg-1.given, written_next c.loop-k.invariant) (c.requires.by_index k c.loop-k-test.true, c.requires.le_share.1) }
+    record { le_r = c.requires.le_share.0; cost_bound = rw (to_z-of_z c.ranges.low, to_z-of_z {w = w64} {z = get_or c.loop-k.least k (pos 0)} (search rules), written_next c.loop-k.invariant) (c.requires.by_index k c.loop-k-test.true, c.requires.le_share.1) }
 
 pub loop-k-preserved : goal.loop-k-preserved
 loop-k-preserved c =
     written_more c.loop-k.invariant c.loop-k-test.true
     (answer c.turned_least.type_inv c.turned_least.ensures
-    ∙ ap (λ (x : ℤ). turned_least x (to_z w64 (of_z w64 c.args.low)) c.args.share) (same (get_or c.loop-k.least c.loop-k.k (pos 0)) c.turned_least-arg-1.given ∙ written_next c.loop-k.invariant))
+    ∙ ap (λ (x : ℤ). turned_least x (to_z w64 (of_z w64 c.args.low)) c.args.share) (to_z-of_z {w = w64} {z = get_or c.loop-k.least c.loop-k.k (pos 0)} (search rules) ∙ written_next c.loop-k.invariant))
 
 pub returns : goal.returns
 returns c =

@@ -1,5 +1,5 @@
 -- `label_amount` meets its contract: a share of the distance from the least of 0 and the label's other costs.
-use Rattle.std.proofs.Common.{◌≡◌, ◌<◌, get_or, ℤ, pos, ◌-ℤ◌, ◌∙◌, ap₂, arith}
+use Rattle.std.proofs.Common.{◌≡◌, ◌<◌, get_or, ℤ, pos, ◌-ℤ◌, ◌∙◌, ap₂, arith, to_z-of_z, w64, rules}
 use Rattle.integers.specs.Share.{share}
 use Rattle.integers.proofs.Bits.{same, answer}
 use Rattle.instance.specs.Sheet.{instance_of}
@@ -39,12 +39,12 @@ pub share_of-requires : goal.share_of-requires
 share_of-requires c =
     let a = c.args in
     let l = a.labels.now in
-    let h = c.requires.node_fits.range in record { le_r = c.requires.viewed.2; cost_bound = rw (same (get_or l a.place (pos 0)) c.share_of-arg-1.given, same c.label_rival.result c.label_rival.type_inv, rival c) (h a.place, rival_within (instance_of a.sheet.now) l h a.place) }
+    let h = c.requires.node_fits.range in record { le_r = c.requires.viewed.2; cost_bound = rw (to_z-of_z {w = w64} {z = get_or l a.place (pos 0)} (search rules), same c.label_rival.result c.label_rival.type_inv, rival c) (h a.place, rival_within (instance_of a.sheet.now) l h a.place) }
 
 pub returns : goal.returns
 returns c =
     let a = c.args in
     let l = a.labels.now in
     answer c.share_of.type_inv c.share_of.ensures
-    ∙ ap₂ (λ (z b : ℤ). share (z -ℤ b) a.share) (same (get_or l a.place (pos 0)) c.share_of-arg-1.given) (answer c.label_rival.type_inv (rival (goal.at.returns c).After-label_rival))
+    ∙ ap₂ (λ (z b : ℤ). share (z -ℤ b) a.share) (to_z-of_z {w = w64} {z = get_or l a.place (pos 0)} (search rules)) (answer c.label_rival.type_inv (rival (goal.at.returns c).After-label_rival))
     ∙ label_shared (instance_of a.sheet.now) l a.place a.share

@@ -1,5 +1,5 @@
 -- `shift_label` meets its contract: both costs are tested, and then both are written.
-use Rattle.std.proofs.Common.{◌≡◌, get_or, pos, ◌+ℤ◌, ◌-ℤ◌, sym, ap, ◌∙◌, ap₂, to_z-of_z, w64, to_z, of_z}
+use Rattle.std.proofs.Common.{◌≡◌, get_or, pos, ◌+ℤ◌, ◌-ℤ◌, sym, ap, ◌∙◌, ap₂, to_z-of_z, w64, to_z, of_z, rules}
 use Rattle.integers.specs.Checks.{within}
 use Rattle.integers.proofs.Bits.{same}
 use Rattle.messages.proofs.LabelMessageLaws.{minus_fits, plus_fits, moved_both, moved_not}
@@ -8,11 +8,11 @@ use Rattle.messages.proofs.label_message.shift_label.Goals.{After-plus-label, St
 
 pub minus-node-requires : goal.minus-node-requires
 minus-node-requires c =
-    rw (same (get_or c.args.nodes.now c.args.i (pos 0)) c.minus-arg-1.given, to_z-of_z c.ranges.p) (minus_fits (get_or c.args.nodes.now c.args.i (pos 0)) c.args.p (c.requires.within c.args.i) c.requires.p_bound)
+    rw (to_z-of_z {w = w64} {z = get_or c.args.nodes.now c.args.i (pos 0)} (search rules), to_z-of_z c.ranges.p) (minus_fits (get_or c.args.nodes.now c.args.i (pos 0)) c.args.p (c.requires.within c.args.i) c.requires.p_bound)
 
 pub plus-label-requires : goal.plus-label-requires
 plus-label-requires c =
-    rw (same (get_or c.args.labels.now c.args.i (pos 0)) c.plus-arg-1.given, to_z-of_z c.ranges.p) (plus_fits (get_or c.args.labels.now c.args.i (pos 0)) c.args.p (c.requires.within_2 c.args.i) c.requires.p_bound)
+    rw (to_z-of_z {w = w64} {z = get_or c.args.labels.now c.args.i (pos 0)} (search rules), to_z-of_z c.ranges.p) (plus_fits (get_or c.args.labels.now c.args.i (pos 0)) c.args.p (c.requires.within_2 c.args.i) c.requires.p_bound)
 
 -- both costs as they would be
 module _ (p : After-plus-label) where
@@ -22,12 +22,12 @@ module _ (p : After-plus-label) where
   node : to_z w64 (of_z w64 p.minus-node.result) ≡ get_or start.args.nodes.now start.args.i (pos 0) -ℤ start.args.p
   node =
       same p.minus-node.result p.minus-node.type_inv ∙ p.minus-node.ensures
-      ∙ ap₂ ◌-ℤ◌ (same (get_or start.args.nodes.now start.args.i (pos 0)) p.minus-arg-1.given) (to_z-of_z start.ranges.p)
+      ∙ ap₂ ◌-ℤ◌ (to_z-of_z {w = w64} {z = get_or start.args.nodes.now start.args.i (pos 0)} (search rules)) (to_z-of_z start.ranges.p)
 
   label : to_z w64 (of_z w64 p.plus-label.result) ≡ get_or start.args.labels.now start.args.i (pos 0) +ℤ start.args.p
   label =
       same p.plus-label.result p.plus-label.type_inv ∙ p.plus-label.ensures
-      ∙ ap₂ ◌+ℤ◌ (same (get_or start.args.labels.now start.args.i (pos 0)) p.plus-arg-1.given) (to_z-of_z start.ranges.p)
+      ∙ ap₂ ◌+ℤ◌ (to_z-of_z {w = w64} {z = get_or start.args.labels.now start.args.i (pos 0)} (search rules)) (to_z-of_z start.ranges.p)
 
 pub returns-then-in_range-2 : goal.returns-then-in_range-2
 returns-then-in_range-2 c =

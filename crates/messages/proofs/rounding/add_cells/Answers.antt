@@ -1,7 +1,6 @@
 -- `add_cells` meets its contract: after i places the row's first i are added.
-use Rattle.std.proofs.Common.{◌≡◌, ℕ, List, length, get_or, take, set, ℤ, pos, ◌+ℤ◌, sym, ap, ◌∙◌, ap₂, arith, take_all, to_z-of_z, w64, SFits}
+use Rattle.std.proofs.Common.{◌≡◌, ℕ, List, length, get_or, take, set, ℤ, pos, ◌+ℤ◌, sym, ap, ◌∙◌, ap₂, arith, take_all, to_z-of_z, w64, SFits, rules}
 use Rattle.integers.proofs.Parts.{linear, add, abs}
-use Rattle.integers.proofs.Bits.{same}
 use Rattle.messages.specs.Rounded.{added}
 use Rattle.messages.proofs.KeyLaws.{added_none, added_at, added_more, length-added}
 use Rattle.messages.proofs.rounding.add_cells.Goals as goal
@@ -45,7 +44,7 @@ slice_copy_out-keys c = omega (arith, long (goal.at.slice_copy_out-keys c).At-lo
 
 pub overflow_add-keys : goal.overflow_add-keys
 overflow_add-keys c =
-    rw (same (get_or (head c).loop-i.keys (i c) (pos 0)) c.keys-1.given, same (get_or (row c) (i c) (pos 0)) c.keys-in-loop-i-1.given) (fits c)
+    rw (to_z-of_z {w = w64} {z = get_or (head c).loop-i.keys (i c) (pos 0)} (search rules), to_z-of_z {w = w64} {z = get_or (row c) (i c) (pos 0)} (search rules)) (fits c)
 
 pub offset_bounds-keys-i-in-loop-i : goal.offset_bounds-keys-i-in-loop-i
 offset_bounds-keys-i-in-loop-i c = omega (arith, long (goal.at.offset_bounds-keys-i-in-loop-i c).At-loop-i)
@@ -55,7 +54,7 @@ bounds-keys-i c = omega (arith, long (goal.at.bounds-keys-i c).At-loop-i)
 
 pub loop-i-preserved : goal.loop-i-preserved
 loop-i-preserved c =
-    rw (same (get_or (head c).loop-i.keys (i c) (pos 0)) c.keys-1.given, same (get_or (row c) (i c) (pos 0)) c.keys-in-loop-i-1.given, to_z-of_z (fits c)) (
+    rw (to_z-of_z {w = w64} {z = get_or (head c).loop-i.keys (i c) (pos 0)} (search rules), to_z-of_z {w = w64} {z = get_or (row c) (i c) (pos 0)} (search rules), to_z-of_z (fits c)) (
       omega arith,
       ap₂ (λ (l : List ℤ) (x : ℤ). set l (i c) (x +ℤ get_or (row c) (i c) (pos 0))) (head c).loop-i.invariant.1 (key c)
           ∙ added_more (keys c) (row c) (i c) (pos 0) c.loop-i-test.true,

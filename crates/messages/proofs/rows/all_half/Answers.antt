@@ -1,6 +1,5 @@
 -- `all_half` meets its contract. The loop's invariant: if what is joined stays below twice `half`, each cost so far lies within it.
-use Rattle.std.proofs.Common.{◌≤◌, get_or, ℤ, pos, nat_abs, subst}
-use Rattle.integers.proofs.Bits.{same}
+use Rattle.std.proofs.Common.{◌≤◌, get_or, ℤ, pos, nat_abs, subst, to_z-of_z, w64, rules}
 use Rattle.messages.proofs.ExcessLaws.{halving_none, halving_more, halving_all}
 use Rattle.messages.proofs.rows.all_half.Goals as goal
 
@@ -8,7 +7,7 @@ pub loop-i-preserved : goal.loop-i-preserved
 loop-i-preserved c =
     let x = get_or c.args.costs.now c.loop-i.i (pos 0) in
     halving_more c.raised-all.result c.loop-i.invariant c.loop-i-test.true
-    (λ h. subst (λ (z : ℤ). nat_abs z ≤ c.args.half) (same x c.raised-arg-1.given) (c.raised-all.ensures h))
+    (λ h. subst (λ (z : ℤ). nat_abs z ≤ c.args.half) (to_z-of_z {w = w64} {z = x} (search rules)) (c.raised-all.ensures h))
 
 pub loop-i-init : goal.loop-i-init
 loop-i-init c = halving_none _ _

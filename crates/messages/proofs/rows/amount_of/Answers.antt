@@ -1,5 +1,5 @@
 -- `amount_of` meets its contract: with no other cost the amount is 0, else a share of the distance from the least of the others.
-use Rattle.std.proofs.Common.{get_or, ℤ, pos, ◌-ℤ◌, sym, ◌∙◌, ap₂, arith}
+use Rattle.std.proofs.Common.{get_or, ℤ, pos, ◌-ℤ◌, sym, ◌∙◌, ap₂, arith, to_z-of_z, w64, rules}
 use Rattle.integers.specs.Least.{without}
 use Rattle.integers.specs.Share.{share}
 use Rattle.integers.proofs.Rows.{length_without, within_without}
@@ -20,7 +20,7 @@ share_of-requires c =
     let k = c.args.k in
     let h = c.requires.within in record {
       le_r = c.requires.le_share;
-      cost_bound = rw (same (get_or l k (pos 0)) c.share_of-arg-1.given, same c.rival.result c.rival.type_inv, c.rival.ensures)
+      cost_bound = rw (to_z-of_z {w = w64} {z = get_or l k (pos 0)} (search rules), same c.rival.result c.rival.type_inv, c.rival.ensures)
           (h k, least_of_within cost_limit (without l k) (within_without cost_limit k l h));
     }
 
@@ -29,5 +29,5 @@ returns c =
     let l = c.args.row.now in
     let k = c.args.k in
     answer c.share_of.type_inv c.share_of.ensures
-    ∙ ap₂ (λ (z b : ℤ). share (z -ℤ b) c.args.share) (same (get_or l k (pos 0)) c.share_of-arg-1.given) (answer c.rival.type_inv c.rival.ensures)
+    ∙ ap₂ (λ (z b : ℤ). share (z -ℤ b) c.args.share) (to_z-of_z {w = w64} {z = get_or l k (pos 0)} (search rules)) (answer c.rival.type_inv c.rival.ensures)
     ∙ sym (amount_some (get_or l k (pos 0)) (without l k) c.args.share (omega (arith, length_without l k c.requires.k_in_bounds, c.if-row-lt2.false)))
