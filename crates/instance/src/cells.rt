@@ -42,10 +42,8 @@ fn each_usable(sheet: &[u8], n: usize, at: usize, edges: usize, starts: &[usize;
     ensures { result ≡ usable_ok sheet.now }
 {
     let mut ok = true;
-    let mut e = 0;
-    while e < edges {
-        ok = ok & edge_usable(sheet, n, at, starts, e);
-        e += 1;
+    for e in 0..edges {
+        ok &= edge_usable(sheet, n, at, starts, e);
     }
     ok
 }
@@ -55,13 +53,7 @@ fn none_single(sheet: &[u8], n: usize) -> bool
     requires { n ≤ length sheet.now }
     ensures { result ≡ below n (λ u. nat_lt 1 (byte sheet.now u)) }
 {
-    let mut ok = true;
-    let mut u = 0;
-    while u < n {
-        ok = ok & (1 < sheet[u]);
-        u += 1;
-    }
-    ok
+    sheet[..n].iter().all(|degree| 1 < *degree)
 }
 
 // Whether each edge has a usable cell, at once if each node has two labels.
@@ -75,8 +67,5 @@ pub(crate) fn edges_usable(
     requires { UsableAsked sheet.now n at starts.now × (edges ≡ (instance_of sheet.now).edge_count) }
     ensures { result ≡ usable_ok sheet.now }
 {
-    if none_single(sheet, n) {
-        return true;
-    }
-    each_usable(sheet, n, at, edges, starts)
+    none_single(sheet, n) || each_usable(sheet, n, at, edges, starts)
 }

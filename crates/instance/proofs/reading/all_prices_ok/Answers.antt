@@ -8,4 +8,4 @@ returns-then-prices_ok c =
     c.prices_ok-then-prices_ok.ensures ∙ sym (prices_by _ c.requires.sizes ∙ rw (sym c.prices_ok.ensures ∙ c.if-prices_ok.true))
 
 pub returns-else-prices_ok : goal.returns-else-prices_ok
-returns-else-prices_ok c = sym (prices_by _ c.requires.sizes ∙ rw (sym c.prices_ok.ensures ∙ c.if-prices_ok.false))
+returns-else-prices_ok c = c.if-prices_ok.false ∙ sym (prices_by _ c.requires.sizes ∙ rw (sym c.prices_ok.ensures ∙ c.if-prices_ok.false))

@@ -1,38 +1,48 @@
--- `read_values` meets its contract: the checks of labels and prices.
-use Rattle.std.proofs.Common.{sym, ◌∙◌, lit<}
-use Rattle.instance.specs.Sheet.{checks}
-use Rattle.instance.proofs.Stages.{labels_asked, values_sizes, values_room, passed_at, refused_at}
+-- `read_values` meets its contract: the labels, the prices and the usable cells.
+use Rattle.std.proofs.Common.{◌≡◌, true, List, ℕ, sym, ◌∙◌, lit<}
+use Rattle.instance.specs.Sheet.{labels_ok, prices_ok, checks}
+use Rattle.instance.specs.Passes.{PassedTo}
+use Rattle.instance.proofs.Stages.{labels_asked, values_sizes, values_room, passed_at, passed_all, refused_at}
+use Rattle.instance.proofs.UsableCells.{usable_asked}
 use Rattle.instance.proofs.reading.read_values.Goals as goal
 
+-- past the labels, and past the prices
+module _ (s : List ℕ) (p : PassedTo s 9) (l : labels_ok s ≡ true) where
+  known : PassedTo s 10
+  unfolding checks
+  known = passed_at s 9 (lit< tt) p l
+
+  priced : prices_ok s ≡ true → PassedTo s 11
+  unfolding checks
+  priced e = passed_at s 10 (lit< tt) known e
+
 pub labels_ok-requires : goal.labels_ok-requires
-labels_ok-requires c = labels_asked _ c.requires
+labels_ok-requires c = labels_asked _ c.requires.0
+
+pub returns-then-not-labels_ok : goal.returns-then-not-labels_ok
+unfolding checks
+returns-then-not-labels_ok c =
+    refused_at c.args.bytes.now 9 (lit< tt) c.requires.1 (sym c.labels_ok.ensures ∙ c.if-not-labels_ok.true)
 
 pub all_prices_ok-requires : goal.all_prices_ok-requires
 all_prices_ok-requires c =
-    let l = c.requires in
-    record { sizes = values_sizes _ l; cells_in_bounds = values_room _ l }
+    record { sizes = values_sizes _ c.requires.0; cells_in_bounds = values_room _ c.requires.0 }
 
-pub read_tables-requires : goal.read_tables-requires
-read_tables-requires c =
-    (c.requires, sym c.labels_ok.ensures ∙ c.if-labels_ok.true)
-
-pub returns-then-all_prices_ok : goal.returns-then-all_prices_ok
+pub returns-then-not-all_prices_ok : goal.returns-then-not-all_prices_ok
 unfolding checks
-returns-then-all_prices_ok c =
-    let s = c.args.sheet.now in
-    c.read_tables.ensures
-    ∙ passed_at s 10 (lit< tt) (sym c.all_prices_ok.ensures ∙ c.if-all_prices_ok.true)
-    ∙ passed_at s 9 (lit< tt) (sym c.labels_ok.ensures ∙ c.if-labels_ok.true)
+returns-then-not-all_prices_ok c =
+    refused_at c.args.bytes.now 10 (lit< tt) (known _ c.requires.1 (sym c.labels_ok.ensures ∙ c.if-not-labels_ok.false)) (sym c.all_prices_ok.ensures ∙ c.if-not-all_prices_ok.true)
 
-pub returns-else-all_prices_ok : goal.returns-else-all_prices_ok
-unfolding checks
-returns-else-all_prices_ok c =
-    let s = c.args.sheet.now in
-    c.refused.ensures ∙ refused_at s 10 (lit< tt) (sym c.all_prices_ok.ensures ∙ c.if-all_prices_ok.false) (lit< tt)
-    ∙ passed_at s 9 (lit< tt) (sym c.labels_ok.ensures ∙ c.if-labels_ok.true)
+pub edges_usable-requires : goal.edges_usable-requires
+edges_usable-requires c =
+    (usable_asked _ c.requires.0 (sym c.labels_ok.ensures ∙ c.if-not-labels_ok.false), c.requires.0.begun.counted.all)
 
-pub returns-else-labels_ok : goal.returns-else-labels_ok
+pub returns-then-not-edges_usable : goal.returns-then-not-edges_usable
 unfolding checks
-returns-else-labels_ok c =
-    let s = c.args.sheet.now in
-    c.refused-else-labels_ok.ensures ∙ refused_at s 9 (lit< tt) (sym c.labels_ok.ensures ∙ c.if-labels_ok.false) (lit< tt)
+returns-then-not-edges_usable c =
+    refused_at c.args.bytes.now 11 (lit< tt) (priced _ c.requires.1 (sym c.labels_ok.ensures ∙ c.if-not-labels_ok.false) (sym c.all_prices_ok.ensures ∙ c.if-not-all_prices_ok.false)) (sym c.edges_usable.ensures ∙ c.if-not-edges_usable.true)
+
+pub returns : goal.returns
+unfolding checks
+returns c =
+    passed_all _ (passed_at c.args.bytes.now 11 (lit< tt) (priced _ c.requires.1 (sym c.labels_ok.ensures ∙ c.if-not-labels_ok.false) (sym c.all_prices_ok.ensures ∙ c.if-not-all_prices_ok.false)) (sym c.edges_usable.ensures ∙ c.if-not-edges_usable.false))

@@ -1,5 +1,4 @@
 -- `read_degrees` meets its contract, by the laws of its turns.
-use Rattle.std.proofs.Common.{◌∙◌}
 use Rattle.instance.proofs.Turns.{degrees_none, degrees_bad, degree_low, degree_high, degrees_more, degrees_done}
 use Rattle.instance.proofs.sections.read_degrees.Goals as goal
 
@@ -9,12 +8,12 @@ loop-u-init c = degrees_none _ _
 pub returns-then-degree-lt1 : goal.returns-then-degree-lt1
 returns-then-degree-lt1 c =
     let w = c.wide-degree.ensures.0 in
-    c.bad_degrees.ensures ∙ degrees_bad c.requires c.loop-u.u c.loop-u-test.true (degree_low _ _ (rw w at c.if-degree-lt1.true))
+    degrees_bad c.requires c.loop-u.u c.loop-u-test.true (degree_low _ _ (rw w at c.if-degree-lt1.true))
 
 pub returns-then-degree-gt16 : goal.returns-then-degree-gt16
 returns-then-degree-gt16 c =
     let w = c.wide-degree.ensures.0 in
-    c.bad_degrees-then-degree-gt16.ensures ∙ degrees_bad c.requires c.loop-u.u c.loop-u-test.true (degree_high _ _ (rw w at c.if-degree-lt1.false) (rw w at c.if-degree-gt16.true))
+    degrees_bad c.requires c.loop-u.u c.loop-u-test.true (degree_high _ _ (rw w at c.if-degree-lt1.false) (rw w at c.if-degree-gt16.true))
 
 pub loop-u-preserved : goal.loop-u-preserved
 loop-u-preserved c =

@@ -33,20 +33,17 @@ loop-e-init c = ends_none _ _
 
 pub returns-then-v-u : goal.returns-then-v-u
 returns-then-v-u c =
-    let p = (goal.at.returns-then-v-u c).After-wide-v in c.bad_ends.ensures
-    ∙ ends_bad (start p).requires (bytes p) (head p).loop-e.e c.loop-e-test.true
+    let p = (goal.at.returns-then-v-u c).After-wide-v in ends_bad (start p).requires (bytes p) (head p).loop-e.e c.loop-e-test.true
     (end_level (start p).requires (bytes p) (head p).loop-e.invariant (u p) (v p) (eu p) (ev p) c.if-v-u.true)
 
 pub returns-then-n-v : goal.returns-then-n-v
 returns-then-n-v c =
-    let p = (goal.at.returns-then-n-v c).After-wide-v in c.bad_ends-then-n-v.ensures
-    ∙ ends_bad (start p).requires (bytes p) (head p).loop-e.e c.loop-e-test.true
+    let p = (goal.at.returns-then-n-v c).After-wide-v in ends_bad (start p).requires (bytes p) (head p).loop-e.e c.loop-e-test.true
     (end_past (start p).requires (bytes p) (head p).loop-e.invariant (u p) (v p) (eu p) (ev p) c.if-v-u.false c.if-n-v.true)
 
 pub returns-then-u-v : goal.returns-then-u-v
 returns-then-u-v c =
-    let p = (goal.at.returns-then-u-v c).After-wide-v in c.bad_ends-then-u-v.ensures
-    ∙ ends_bad (start p).requires (bytes p) (head p).loop-e.e c.loop-e-test.true
+    let p = (goal.at.returns-then-u-v c).After-wide-v in ends_bad (start p).requires (bytes p) (head p).loop-e.e c.loop-e-test.true
     (end_falls (start p).requires (bytes p) (head p).loop-e.invariant (u p) (v p) (eu p) (ev p) c.if-v-u.false c.if-n-v.false c.if-u-v.true)
 
 -- the table of an edge has at most 256 cells
