@@ -1,5 +1,6 @@
 -- What a sheet that was read says of itself: its counts, where its sections stand, and where each node's places and each edge's table begin.
-use Rattle.std.specs.Prelude.{◌≡◌, ℕ, List}
+use Rattle.std.specs.Prelude.{◌≡◌, ◌+◌, ℕ, List}
+use Rattle.integers.specs.Rows.{part}
 use Rattle.integers.specs.Checks.{padded}
 use Rattle.instance.specs.Instance.{first, node_cells, table, edge_cells}
 use Rattle.instance.specs.Sheet.{instance_of, node_prices_at, ends_at, edge_prices_at}
@@ -23,3 +24,7 @@ module _ (s : List ℕ) where
 
   abbrev pub tables_of : List ℕ
   tables_of = padded 256 (instance_of s).edge_count (table (instance_of s))
+
+  -- the labels of node u, a part of the sheet
+  abbrev pub labels_of : ℕ → List ℕ
+  labels_of u = part s ((instance_of s).node_count + first (instance_of s) u) ((instance_of s).degree u)

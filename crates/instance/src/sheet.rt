@@ -1,7 +1,9 @@
 // A sheet that was read and not refused.
-ghost use Rattle.std.specs.Prelude.{◌≡◌};
-ghost use Rattle.instance.specs.Sheet.{refusal_of};
-ghost use Rattle.instance.specs.Described.{Counts, Places, starts_of, tables_of};
+ghost use Rattle.std.specs.Prelude.{◌≡◌, ◌<◌, ◌≤◌};
+ghost use Rattle.instance.specs.Sheet.{instance_of, refusal_of};
+ghost use Rattle.instance.specs.Described.{Counts, Places, starts_of, tables_of, labels_of};
+
+use crate::bytes::price;
 
 // Its bytes, and what they hold, counted in cells. What stands here is what the bytes say: no other value of this type can be made.
 #[derive(Clone, Copy)]
@@ -26,4 +28,63 @@ pub struct Sheet<'a> {
     ghost placed: { Places bytes.now prices ends edge_prices },
     ghost begun: { starts ≡ starts_of bytes.now },
     ghost tabled: { tables ≡ tables_of bytes.now },
+}
+
+impl<'a> Sheet<'a> {
+    // How many positions node `u` has.
+    pub fn degree(&self, u: usize) -> usize
+        requires { u < self.now.nodes }
+        ensures { (result ≡ (instance_of self.now.bytes.now).degree u) × (1 ≤ result) × (result ≤ 16) }
+    {
+        usize::from(self.bytes[u])
+    }
+
+    // The labels of node `u`, a part of the sheet.
+    pub fn labels_of(&self, u: usize) -> &'a [u8]
+        requires { u < self.now.nodes }
+        ensures { result.now ≡ labels_of self.now.bytes.now u }
+    {
+        let from = self.nodes + self.starts[u];
+        &self.bytes[from..from + self.degree(u)]
+    }
+
+    // The label at a place, counted in cells.
+    pub fn label(&self, place: usize) -> usize
+        requires { place < self.now.positions }
+        ensures { (result ≡ (instance_of self.now.bytes.now).label place) × (result < 256) }
+    {
+        usize::from(self.bytes[self.nodes + place])
+    }
+
+    // The lower end of edge `e`.
+    pub fn low(&self, e: usize) -> usize
+        requires { e < self.now.edges }
+        ensures { (result ≡ (instance_of self.now.bytes.now).low e) × (result < self.now.nodes) }
+    {
+        usize::from(self.bytes[self.ends + 2 * e])
+    }
+
+    // The higher end of edge `e`.
+    pub fn high(&self, e: usize) -> usize
+        requires { e < self.now.edges }
+        ensures { (result ≡ (instance_of self.now.bytes.now).high e) × (result < self.now.nodes) }
+    {
+        usize::from(self.bytes[self.ends + 2 * e + 1])
+    }
+
+    // The price of a node's cell.
+    pub fn node_price(&self, place: usize) -> i64
+        requires { place < self.now.positions }
+        ensures { result ≡ (instance_of self.now.bytes.now).node_price place }
+    {
+        price(self.bytes, self.prices + 4 * place)
+    }
+
+    // The price of an edge's cell.
+    pub fn edge_price(&self, cell: usize) -> i64
+        requires { cell < self.now.cells }
+        ensures { result ≡ (instance_of self.now.bytes.now).edge_price cell }
+    {
+        price(self.bytes, self.edge_prices + 4 * cell)
+    }
 }

@@ -1,11 +1,8 @@
 -- `each_usable` meets its contract: each edge is tested, and whether all passed is kept.
-use Rattle.std.proofs.Common.{◌-◌, not}
+use Rattle.std.proofs.Common.{not}
 use Rattle.integers.proofs.Checks.{Folded}
 use Rattle.instance.specs.Sheet.{none_usable}
 use Rattle.instance.proofs.cells.each_usable.Given as goal
 
 abbrev pub invariant-loop-e : goal.invariant-loop-e
 invariant-loop-e l = Folded (λ e. not (none_usable l.sheet e)) l.edges l.e l.ok
-
-abbrev pub decreases-loop-e : goal.decreases-loop-e
-decreases-loop-e l = l.edges - l.e

@@ -1,11 +1,7 @@
 -- `labels_ok` meets its contract: each label is tested, and whether all passed is kept.
-use Rattle.std.proofs.Common.{◌-◌}
 use Rattle.integers.proofs.Checks.{Folded}
 use Rattle.instance.specs.Passes.{place_ok}
 use Rattle.instance.proofs.sections.labels_ok.Given as goal
 
 abbrev pub invariant-loop-i : goal.invariant-loop-i
 invariant-loop-i l = Folded (place_ok l.sheet) l.positions l.i l.ok
-
-abbrev pub decreases-loop-i : goal.decreases-loop-i
-decreases-loop-i l = l.positions - l.i

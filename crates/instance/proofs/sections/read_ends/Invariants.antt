@@ -1,10 +1,6 @@
 -- `read_ends` meets its contract, by the laws of its turns.
-use Rattle.std.proofs.Common.{◌-◌}
 use Rattle.instance.proofs.Turns.{EndsTurn}
 use Rattle.instance.proofs.sections.read_ends.Given as goal
 
 abbrev pub invariant-loop-e : goal.invariant-loop-e
 invariant-loop-e l = EndsTurn l.sheet l.edges l.tables l.total l.next l.e
-
-abbrev pub decreases-loop-e : goal.decreases-loop-e
-decreases-loop-e l = l.edges - l.e
