@@ -1,7 +1,7 @@
 -- What the library's comparisons and chains tell, as the checks have it.
 -- Assumes nothing.
-use Rattle.std.proofs.Common.{◌≡◌, ℕ, suc, ◌+◌, ◌-◌, ◌<◌, ◌≤◌, Bool, true, ◌&&◌, eqb, List, [], ◌∷◌, length, get_or, take, drop, ap, ap₂, ◌∙◌, sym, refl, arith, lit≤, drop-cons}
-use Rattle.std.specs.Prelude.{IsTrue, ◌↔◌}
+use Rattle.std.proofs.Common.{◌≡◌, ℕ, suc, ◌+◌, ◌-◌, ◌<◌, ◌≤◌, Bool, true, eqb, List, [], ◌∷◌, length, take, drop, refl, arith, lit≤, drop-cons}
+use Rattle.std.specs.Prelude.{IsTrue}
 use lib.Pointwise.{pointwise}
 use Rattle.integers.specs.Checks.{below}
 use Rattle.integers.proofs.Places.{both_ways}

@@ -7,14 +7,13 @@ ghost use Rattle.instance.specs.Sheet.{instance_of, none_usable, usable_ok};
 ghost use Rattle.instance.specs.Passes.{LabelsBegun, UsableAsked};
 
 use crate::labels::usable;
-use index::wide;
 
 // The first label of node `u`.
 fn first_label(sheet: &[u8], n: usize, starts: &[usize; 64], u: usize) -> usize
     requires { LabelsBegun sheet.now n starts.now × (u < (instance_of sheet.now).node_count) }
     ensures { result ≡ (instance_of sheet.now).label (first (instance_of sheet.now) u) }
 {
-    wide(sheet[n + starts[u]])
+    usize::from(sheet[n + starts[u]])
 }
 
 // Whether edge `e` has one. Of an end with two labels one is not the other end's first, so that only two ends of one label each may have none.
@@ -22,8 +21,8 @@ fn edge_usable(sheet: &[u8], n: usize, at: usize, starts: &[usize; 64], e: usize
     requires { UsableAsked sheet.now n at starts.now × (e < (instance_of sheet.now).edge_count) }
     ensures { result ≡ not (none_usable sheet.now e) }
 {
-    let u = wide(sheet[at + 2 * e]);
-    let v = wide(sheet[at + 2 * e + 1]);
+    let u = usize::from(sheet[at + 2 * e]);
+    let v = usize::from(sheet[at + 2 * e + 1]);
     if 1 < sheet[u] {
         return true;
     }

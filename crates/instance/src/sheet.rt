@@ -1,6 +1,8 @@
 // A sheet that was read and not refused.
 ghost use Rattle.std.specs.Prelude.{◌≡◌, ◌<◌, ◌≤◌};
 ghost use Rattle.instance.specs.Sheet.{instance_of, refusal_of};
+ghost use Rattle.instance.specs.Instance.{table_size};
+ghost use Rattle.instance.specs.Layout.{Shows};
 ghost use Rattle.instance.specs.Described.{Counts, Places, starts_of, tables_of, labels_of};
 
 use crate::bytes::price;
@@ -70,6 +72,23 @@ impl<'a> Sheet<'a> {
         ensures { (result ≡ (instance_of self.now.bytes.now).high e) × (result < self.now.nodes) }
     {
         usize::from(self.bytes[self.ends + 2 * e + 1])
+    }
+
+    // How many cells edge `e` has.
+    pub fn size(&self, e: usize) -> usize
+        requires { e < self.now.edges }
+        ensures { (result ≡ table_size (instance_of self.now.bytes.now) e) × (1 ≤ result) × (result ≤ 256) }
+    {
+        self.degree(self.low(e)) * self.degree(self.high(e))
+    }
+
+    // The prices of edge `e`, a part of the sheet itself.
+    pub fn prices_of(&self, e: usize) -> &'a [u8]
+        requires { e < self.now.edges }
+        ensures { Shows self.now.bytes e result }
+    {
+        let from = self.edge_prices + 4 * self.tables[e];
+        &self.bytes[from..from + 4 * self.size(e)]
     }
 
     // The price of a node's cell.

@@ -12,4 +12,3 @@ returns-then-none_single c =
 
 pub none_single-requires : goal.none_single-requires
 none_single-requires c = c.requires.0.labels.degrees.room
-

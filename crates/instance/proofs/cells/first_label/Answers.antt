@@ -7,7 +7,7 @@ pub overflow_add-n : goal.overflow_add-n
 overflow_add-n c = let (b, h) = c.requires in record { fits = omega (arith, first_inside b h, c.ranges) }
 
 pub returns : goal.returns
-returns c = let (b, h) = c.requires in c.wide.ensures.0 ∙ first_is b h
+returns c = let (b, h) = c.requires in c.from.ensures ∙ first_is b h
 
 pub bounds-starts-u : goal.bounds-starts-u
 bounds-starts-u c = let (b, h) = c.requires in start_few b h

@@ -1,5 +1,5 @@
 -- `none_single` meets its contract: each degree is above 1.
-use Rattle.std.proofs.Common.{◌<◌, length, take, ltb, ltb-true, lt-ltb, get_or, ◌≡◌, ℕ, rules, ◌∙◌, sym, ap, arith, length-take-le, get_or-take}
+use Rattle.std.proofs.Common.{◌<◌, length, take, ltb, ltb-true, lt-ltb, get_or, ◌≡◌, ℕ, rules, arith, length-take-le, get_or-take}
 use Rattle.std.specs.Prelude.{IsTrue, ◌↔◌, EachIndex, slice_index}
 use Rattle.instance.specs.Bytes.{byte}
 use Rattle.instance.proofs.Told.{below_told}

@@ -1,5 +1,5 @@
 -- `read` meets its contract: by numbers, what reading answers.
-use Rattle.std.proofs.Common.{◌≡◌, ap, sym, ◌∙◌, arith, Bor, List, ℕ}
+use Rattle.std.proofs.Common.{ap, ◌∙◌, arith, Bor, List, ℕ}
 use Rattle.instance.specs.Layout.{refused_by, layout_of}
 use Rattle.instance.proofs.LaidOut.{described_by, refused_by_lem}
 use Rattle.instance.proofs.Told.{numbered}

@@ -1,5 +1,5 @@
 -- `read_counts` meets its contract: the trailer's counts and their limits.
-use Rattle.std.proofs.Common.{◌≡◌, ◌+◌, ◌-◌, ℕ, List, length, ap, sym, ◌∙◌, arith, lit<}
+use Rattle.std.proofs.Common.{◌≡◌, ◌+◌, ℕ, List, ap, ◌∙◌, arith, lit<}
 use Rattle.instance.specs.Bytes.{byte, pair_at}
 use Rattle.instance.specs.Sheet.{instance_of, trailer, checks}
 use Rattle.instance.proofs.Stages.{nodes_over, labels_over, edges_over, counts_good, degrees_short, degrees_fit_lem, passed_at, refused_at}
@@ -14,13 +14,13 @@ module _ (p : After-pair-edges) where
   begins : p.args.at ≡ trailer sheet
   begins = omega (arith, p.requires.0)
 
-  en : p.wide-nodes.result ≡ (instance_of sheet).node_count
+  en : p.from-nodes.result ≡ (instance_of sheet).node_count
   unfolding instance_of
-  en = p.wide-nodes.ensures.0 ∙ ap (byte sheet) begins
+  en = p.from-nodes.ensures ∙ ap (byte sheet) begins
 
-  el : p.wide-labels.result ≡ (instance_of sheet).label_count
+  el : p.from-labels.result ≡ (instance_of sheet).label_count
   unfolding instance_of
-  el = p.wide-labels.ensures.0 ∙ ap (λ (at : ℕ). byte sheet (at + 1)) begins
+  el = p.from-labels.ensures ∙ ap (λ (at : ℕ). byte sheet (at + 1)) begins
 
   ee : p.pair-edges.result ≡ (instance_of sheet).edge_count
   unfolding instance_of
@@ -53,17 +53,18 @@ returns-then-bytes-nodes c =
 pub returns : goal.returns
 unfolding checks
 returns c =
-    let p = (goal.at.returns c).After-pair-edges in
-    (record {
-      long = omega (arith, c.requires.0);
-      nodes = en p;
-      few_nodes = c.if-nodes-gt64.false;
-      known = el p;
-      few_labels = c.if-labels-gt64.false;
-      all = ee p;
-      few_edges = c.if-edges-gt256.false;
-      room = c.if-bytes-nodes.false;
-    },
-    passed_at (sheet p) 3 (lit< tt)
-    (passed_at (sheet p) 2 (lit< tt) c.requires.1 (counts_good (sheet p) (en p) (el p) (ee p) c.if-nodes-gt64.false c.if-labels-gt64.false c.if-edges-gt256.false))
-    (degrees_fit_lem (sheet p) (en p) (el p) (ee p) c.if-bytes-nodes.false))
+    let p = (goal.at.returns c).After-pair-edges in (
+      record {
+        long = omega (arith, c.requires.0);
+        nodes = en p;
+        few_nodes = c.if-nodes-gt64.false;
+        known = el p;
+        few_labels = c.if-labels-gt64.false;
+        all = ee p;
+        few_edges = c.if-edges-gt256.false;
+        room = c.if-bytes-nodes.false;
+      },
+      passed_at (sheet p) 3 (lit< tt)
+          (passed_at (sheet p) 2 (lit< tt) c.requires.1 (counts_good (sheet p) (en p) (el p) (ee p) c.if-nodes-gt64.false c.if-labels-gt64.false c.if-edges-gt256.false))
+          (degrees_fit_lem (sheet p) (en p) (el p) (ee p) c.if-bytes-nodes.false),
+    )

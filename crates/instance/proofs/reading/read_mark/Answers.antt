@@ -1,5 +1,5 @@
 -- `read_mark` meets its contract: the length and the mark.
-use Rattle.std.proofs.Common.{◌≡◌, ◌≤◌, true, List, ℕ, length, sym, ◌∙◌, arith, lit<, le-leb}
+use Rattle.std.proofs.Common.{◌≤◌, List, ℕ, length, sym, ◌∙◌, arith, lit<, le-leb}
 use borrow.Author.Tests.{lt-leb}
 use Rattle.instance.specs.Sheet.{short_enough, marked, checks}
 use Rattle.instance.specs.Passes.{PassedTo}

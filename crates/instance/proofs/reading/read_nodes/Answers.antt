@@ -4,7 +4,7 @@ use Rattle.instance.specs.declared.sections.Degrees.{Degrees}
 use Rattle.instance.specs.Instance.{node_cells}
 use Rattle.instance.specs.Sheet.{instance_of, degrees_ok, checks}
 use Rattle.instance.specs.Passes.{good_degrees}
-use Rattle.instance.proofs.Stages.{degrees_told, degrees_untold, degrees_asked, positions_few_lem, ends_short, ends_fit_lem, passed_at, refused_at}
+use Rattle.instance.proofs.Stages.{degrees_told, degrees_untold, positions_few_lem, ends_short, ends_fit_lem, passed_at, refused_at}
 use Rattle.instance.proofs.reading.read_nodes.Goals as goal
 use Rattle.instance.proofs.reading.read_nodes.Goals.{In-Some}
 
@@ -49,6 +49,7 @@ returns-then-bytes-n c =
 pub returns : goal.returns
 unfolding checks
 returns c =
-    let q = (goal.at.returns c).In-Some in let s = c.args.bytes.now in
-    (record { counted = c.requires.0; small = (told q).0; begun = (told q).1; room = rw (total q) at c.if-bytes-n.false },
-    passed_at s 5 (lit< tt) (passed_at s 4 (lit< tt) c.requires.1 (told q).0) (ends_fit_lem s c.requires.0 (told q).0 (total q) c.if-bytes-n.false))
+    let q = (goal.at.returns c).In-Some in let s = c.args.bytes.now in (
+      record { counted = c.requires.0; small = (told q).0; begun = (told q).1; room = rw (total q) at c.if-bytes-n.false },
+      passed_at s 5 (lit< tt) (passed_at s 4 (lit< tt) c.requires.1 (told q).0) (ends_fit_lem s c.requires.0 (told q).0 (total q) c.if-bytes-n.false),
+    )

@@ -7,7 +7,7 @@ loop-u-init c = firsts_none _ _
 
 pub loop-u-preserved : goal.loop-u-preserved
 loop-u-preserved c =
-    rw c.wide-at.ensures.0 (firsts_more c.requires.degrees_asked c.requires.sheet_value c.loop-u.invariant c.loop-u-test.true)
+    rw c.from-at.ensures (firsts_more c.requires.degrees_asked c.requires.sheet_value c.loop-u.invariant c.loop-u-test.true)
 
 pub returns : goal.returns
 returns c = firsts_done c.requires.degrees_asked c.requires.sheet_value c.loop-u.invariant c.loop-u-test.false

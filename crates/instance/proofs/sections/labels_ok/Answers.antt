@@ -31,7 +31,7 @@ bounds-firsts-i c = omega (arith, c.requires.few)
 pub loop-i-preserved : goal.loop-i-preserved
 loop-i-preserved c =
     folded_more c.loop-i.invariant c.loop-i-test.true
-    (label_by_lem c.requires c.first_places-firsts.ensures c.loop-i-test.true c.wide-label.ensures.0 c.wide-before.ensures.0 c.label_ok-ok.ensures)
+    (label_by_lem c.requires c.first_places-firsts.ensures c.loop-i-test.true c.from-label.ensures c.from-before.ensures c.label_ok-ok.ensures)
 
 pub returns : goal.returns
 returns c = labels_done c.requires (folded_all c.loop-i.invariant c.loop-i-test.false)

@@ -7,17 +7,17 @@ loop-u-init c = degrees_none _ _
 
 pub returns-then-degree-lt1 : goal.returns-then-degree-lt1
 returns-then-degree-lt1 c =
-    let w = c.wide-degree.ensures.0 in
+    let w = c.from-degree.ensures in
     degrees_bad c.requires c.loop-u.u c.loop-u-test.true (degree_low _ _ (rw w at c.if-degree-lt1.true))
 
 pub returns-then-degree-gt16 : goal.returns-then-degree-gt16
 returns-then-degree-gt16 c =
-    let w = c.wide-degree.ensures.0 in
+    let w = c.from-degree.ensures in
     degrees_bad c.requires c.loop-u.u c.loop-u-test.true (degree_high _ _ (rw w at c.if-degree-lt1.false) (rw w at c.if-degree-gt16.true))
 
 pub loop-u-preserved : goal.loop-u-preserved
 loop-u-preserved c =
-    let w = c.wide-degree.ensures.0 in
+    let w = c.from-degree.ensures in
     rw w (degrees_more c.requires c.loop-u.invariant c.loop-u-test.true (rw w at c.if-degree-lt1.false) (rw w at c.if-degree-gt16.false))
 
 pub returns : goal.returns

@@ -2,7 +2,6 @@
 use Rattle.std.proofs.Common.{◌≡◌, ℕ, ◌+◌, ◌-◌, ◌≤◌, length, get_or, ap₂, arith}
 use Rattle.integers.specs.Rows.{part}
 use Rattle.instance.specs.declared.sheet.Sheet.{Sheet}
-use Rattle.instance.specs.Instance.{first}
 use Rattle.instance.specs.Sheet.{instance_of}
 use Rattle.instance.proofs.Sheets.{whole, nodes_is, nodes_few, positions_is, positions_few, start_is, row_here}
 use Rattle.instance.proofs.sheet.Sheet.labels_of.Goals as goal

@@ -1,5 +1,5 @@
 -- `Sheet::read` meets its contract: each stage's failure is the first, and what passed all of them is described.
-use Rattle.std.proofs.Common.{◌≡◌, sym}
+use Rattle.std.proofs.Common.{sym}
 use Rattle.instance.proofs.Stages.{counts_are, places_are, starts_are, tables_are}
 use Rattle.instance.proofs.sheet.Sheet.read.Goals as goal
 
