@@ -35,6 +35,9 @@ rows_at row l j h b =
     let r : (65 * l + j) % 65 ≡ j = mul-add-mod_self_left 65 l j ∙ mod-eq_of_lt b in
     get_d_tabulate 4160 (λ p. cell_of (row (p / 65)) (p % 65)) (65 * l + j) 0 (omega arith) ∙ rw (q, r)
 
+pub rows_many : (row : ℕ → List ℕ) (l : ℕ) → l < 64 → many (in_rows row) l ≡ length (row l)
+rows_many row l h = let z : 65 * l ≡ 65 * l + 0 = omega arith in ap (λ (p : ℕ). get_or (in_rows row) p 0) z ∙ rows_at row l 0 h (omega arith)
+
 -- a list that agrees with the rows at each number is them
 pub rows_are : (row : ℕ → List ℕ) (index : List ℕ) → length index ≡ 4160 → ((l j : ℕ) → l < 64 → j < 65 → get_or index (65 * l + j) 0 ≡ cell_of (row l) j) → index ≡ in_rows row
 rows_are row index size at =
@@ -103,7 +106,7 @@ module _ (key : ℕ → ℕ) (m : ℕ) where
   was l j h b = rows_at (λ l. take 64 (row l)) l j h b
 
   c_is : k < 64 → c ≡ length (take 64 (row k))
-  c_is h = let z : 65 * k ≡ 65 * k + 0 = omega arith in ap (λ (p : ℕ). get_or before p 0) z ∙ was k 0 h (omega arith)
+  c_is h = rows_many (λ l. take 64 (row l)) k h
 
   -- what is stored elsewhere stays
   stays : (p : ℕ) → (k < 64 → c < 64 → (p ≡ 65 * k → ⊥) × (p ≡ 65 * k + 1 + c → ⊥)) → get_or after p 0 ≡ get_or before p 0

@@ -1,18 +1,34 @@
 -- What other crates know of an index: that `index_of` is one, and what its rows hold.
 -- Assumes nothing.
 use mathlib.Core.Path.{◌≡◌, sym, ap, ◌∙◌}
+use mathlib.Core.Bool.{◌&&◌}
 use mathlib.Core.List.{List}
 use Prim.Native.Nat.{ℕ, suc, ◌+◌, ◌*◌, ◌≤◌, ◌<◌}
 use native.Mathlib.Nat.{mul-le-mul_left, mul-suc}
 use native.Mathlib.Omega.{arith}
-use lib.ListN.{length, get_or, take, drop, length-map, length-drop}
+use lib.Dec.{eqb}
+use lib.ListN.{length, get_or, take, drop, length-map, length-drop, length-take}
 use lib.Seq.{length-take-le, get_or-take, get_or-drop, take_all, ext_get_or}
-use Rattle.integers.specs.Places.{range}
-use Rattle.integers.proofs.Places.{length-range}
+use Rattle.integers.specs.Places.{range, select}
+use Rattle.integers.proofs.Places.{length-range, get_or-range}
 use Rattle.integers.proofs.Ranges.{range-part}
-use Rattle.index.specs.Index.{key_at, index_of, having, many, held, Indexed, Indexable}
+use Rattle.index.specs.Index.{thing, key_at, row_of, index_of, having, many, held, Few, Indexed, Indexable}
 use Rattle.index.proofs.Lists.{having_ext, at_place}
-use Rattle.index.proofs.Filling.{rows_size, rows_at, cell_of, filled, filled_all, counted_by}
+use Rattle.index.proofs.Filling.{rows_size, rows_at, rows_many, cell_of, filled, filled_all, counted_by}
+
+-- ---- rows of any index
+
+-- no row has more than 64 things
+pub index_few : (bytes : List ℕ) (stride : ℕ) → Few (index_of bytes stride)
+unfolding index_of row_of
+index_few bytes stride l h =
+    let all = select (λ i. thing (length bytes) stride i && eqb (key_at bytes stride i) l) (range 0 65_536) in
+    let e : many (index_of bytes stride) l ≡ length (take 64 all) = rows_many (row_of bytes stride) l h in
+    omega (arith, length-take 64 all)
+
+-- a row is a part of the index
+pub held_part : (index : List ℕ) (l : ℕ) → 65 * l + 1 + many index l ≤ length index → take (many index l) (drop (65 * l + 1) index) ≡ held index l
+held_part index l h = sym (range-part index 0 (65 * l + 1) (many index l) h)
 
 -- ---- the index of some bytes
 
@@ -24,7 +40,7 @@ module _ (key : ℕ → ℕ) (m : ℕ) (roomy : (l : ℕ) → l < 64 → length 
   at l j h b = rows_at (λ l. take 64 (having key l m)) l j h b ∙ ap (λ (r : List ℕ). cell_of r j) (take_all 64 (having key l m) (roomy l h))
 
   many_at : (l : ℕ) → l < 64 → many index l ≡ length (having key l m)
-  many_at l h = let z : 65 * l ≡ 65 * l + 0 = omega arith in ap (λ (p : ℕ). get_or index p 0) z ∙ at l 0 h (omega arith)
+  many_at l h = rows_many (λ l. take 64 (having key l m)) l h ∙ ap length (take_all 64 (having key l m) (roomy l h))
 
   thing_at : (l j : ℕ) → l < 64 → j < 64 → get_or index (65 * l + 1 + j) 0 ≡ get_or (having key l m) j 0
   thing_at l j h b = let z : 65 * l + 1 + j ≡ 65 * l + suc j = omega arith in ap (λ (p : ℕ). get_or index p 0) z ∙ at l (suc j) h (omega arith)
@@ -35,7 +51,7 @@ module _ (key : ℕ → ℕ) (m : ℕ) (roomy : (l : ℕ) → l < 64 → length 
       let r = roomy l h in
       let size = rows_size (λ l. take 64 (having key l m)) in
       let long : length (take (many index l) (drop (65 * l + 1) index)) ≡ many index l = length-take-le (many index l) (drop (65 * l + 1) index) (simp length-drop (omega arith)) in
-      range-part index 0 (65 * l + 1) (many index l) (omega arith)
+      sym (held_part index l (omega arith))
       ∙ ext_get_or 0 (take (many index l) (drop (65 * l + 1) index)) (having key l m) (long ∙ c) (λ j b.
       get_or-take (many index l) (drop (65 * l + 1) index) j 0 (omega arith) ∙ get_or-drop (65 * l + 1) index j 0 ∙ thing_at l j h (omega arith))
 
@@ -82,6 +98,9 @@ indexed_part s from size stride {key} {m} fits all each few keys roomy =
 
 pub length-held : (index : List ℕ) (l : ℕ) → length (held index l) ≡ many index l
 length-held index l = length-map (range (65 * l + 1) (many index l)) (λ j. get_or index j 0) ∙ length-range (65 * l + 1) (many index l)
+
+pub held_at : (index : List ℕ) (l j : ℕ) → j < many index l → get_or (held index l) j 0 ≡ get_or index (65 * l + 1 + j) 0
+held_at index l j h = get_or-range (λ i. get_or index i 0) (65 * l + 1) (many index l) j 0 h
 
 -- a row has as many things as there are
 pub many_is : {key : ℕ → ℕ} {m : ℕ} {index : List ℕ} → Indexed key m index → (l : ℕ) → l < 64 → many index l ≡ length (having key l m)

@@ -35,6 +35,10 @@ many index l = get_or index (65 * l) 0
 abbrev pub held : List ℕ → ℕ → List ℕ
 held index l = map (λ j. get_or index j 0) (range (65 * l + 1) (many index l))
 
+-- no row has more things than it has room for
+abbrev pub Few : List ℕ → Type 0
+Few index = (l : ℕ) → l < 64 → many index l ≤ 64
+
 -- the index of the things below m
 pub record Indexed (key : ℕ → ℕ) (m : ℕ) (index : List ℕ) : Type 0 where
   pub size : length index ≡ 4160

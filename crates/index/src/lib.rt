@@ -5,4 +5,4 @@ mod numbers;
 mod table;
 
 pub use numbers::{number, wide};
-pub use table::{index_by, index_into};
+pub use table::{Index, index_by, index_into};

@@ -1,8 +1,48 @@
-// The table that is the index, filled thing by thing.
-ghost use Rattle.std.specs.Prelude.{◌≡◌, ◌<◌};
-ghost use Rattle.index.specs.Index.{Things, entered, index_of};
+// The table that is the index, filled thing by thing, and its rows.
+ghost use Rattle.std.specs.Prelude.{◌≡◌, ◌<◌, ◌≤◌, length};
+ghost use Rattle.index.specs.Index.{Things, entered, held, index_of};
 
-use crate::numbers::{number, short, wide};
+use std::marker::Model;
+
+// An index: of each key below 64 the things that have it, rising, at most 64.
+#[derive(Drop)]
+pub struct Index {
+    entries: [u16; 4160],
+}
+
+impl Model for Index {
+    ghost use Rattle.std.specs.Prelude.{List, ℕ};
+    ghost use Rattle.index.specs.Index.{Few};
+
+    ghost Value = { List ℕ };
+
+    ghost view = { λ i. i.entries };
+
+    ghost invariant = { λ i. Few i.entries };
+}
+
+impl Index {
+    // The index of things of which the i-th has as its key the byte at `stride` times i.
+    pub fn of(bytes: &[u8], stride: usize) -> Self
+        ensures { result ≡ index_of bytes.now stride }
+    {
+        let mut entries = [0u16; 4160];
+        index_into(bytes, stride, &mut entries);
+        Index { entries }
+    }
+
+    // The things that have a key, rising.
+    pub fn row(&self, key: usize) -> &[u16]
+        requires { key < 64 }
+        ensures things { result.now ≡ held self.now key }
+        ensures few { length result.now ≤ 64 }
+    {
+        let at = 65 * key;
+        let many = usize::from(self.entries[at]);
+        let from = at + 1;
+        &self.entries[from..from + many]
+    }
+}
 
 // How many things some bytes have, one every `stride` bytes: at most 65,536.
 fn count(len: usize, stride: usize) -> usize
@@ -25,25 +65,22 @@ fn enter(index: &mut [u16; 4160], key: usize, thing: usize)
 {
     if key < 64 {
         let row = 65 * key;
-        let many = number(index[row]);
+        let many = usize::from(index[row]);
         if many < 64 {
             let at = row + 1 + many;
-            index[at] = short(thing);
-            index[row] = short(many + 1);
+            index[at] = thing as u16;
+            index[row] = (many + 1) as u16;
         }
     }
 }
 
-// The index of things of which the i-th has as its key the byte at `stride` times i, whatever the array held.
+// The entries of the index of things of which the i-th has as its key the byte at `stride` times i, whatever the array held.
 pub fn index_into(bytes: &[u8], stride: usize, index: &mut [u16; 4160])
     ensures { index.new ≡ index_of bytes.now stride }
 {
     *index = [0u16; 4160];
-    let things = count(bytes.len(), stride);
-    let mut thing = 0;
-    while thing < things {
-        enter(index, wide(bytes[stride * thing]), thing);
-        thing += 1;
+    for thing in 0..count(bytes.len(), stride) {
+        enter(index, usize::from(bytes[stride * thing]), thing);
     }
 }
 

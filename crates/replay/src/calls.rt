@@ -1,229 +1,155 @@
-// The calls over the four buffers: open, run, report. Each is made on copies of the buffers, which are then those of
-// the next call. `at` is the place of the call's parameters.
-ghost use Rattle.std.specs.Prelude.{◌≤◌};
+// The calls. For each op a function reads its parameters and what the file has for answers, makes the call, and says
+// whether the answers are the file's. It answers none where the call is skipped: where it has buffers and those of the
+// case are too long for this program, and as each function says.
+//
+// The hash of the buffers is compared after the calls that have them, and after each edit. A show or a read has none to
+// change, and a sweep or a placing its own: there it is not compared.
+use crate::buffers::{Buffer, Buffers};
+use crate::hash::Hash;
+use crate::ops::Op;
+use crate::reader::Reader;
+use instance::refusal::NO_MATCHING;
+use messages::Report;
 
-use crate::file::{after, byte_at, cost_is, number_is, past_bytes};
-use crate::state::State;
-use crate::state_hash;
-use crate::tally::{Verdict, judged};
-use messages::{Answer, Report};
-
-// What a call left, and how it compares.
-#[derive(Clone, Copy)]
-pub struct Outcome {
-    pub state: State,
-    pub verdict: Verdict,
+// A case that is gone through: its sheet, and its buffers, none once one was too long.
+#[derive(Drop)]
+pub struct Case<'a> {
+    pub sheet: &'a [u8],
+    pub buffers: Option<Buffers>,
 }
 
-#[derive(Clone, Copy)]
-struct Ran {
-    state: State,
-    answer: Answer,
-}
+impl<'a> Case<'a> {
+    // The one place where an op is chosen.
+    pub fn call(&mut self, op: Op, reader: &mut Reader) -> Option<bool> {
+        match op {
+            Op::Open => self.open(reader),
+            Op::Run => self.run(reader),
+            Op::Report => self.report(reader),
+            Op::Sweep => sweep(self.sheet, reader),
+            Op::Show => show(self.sheet, reader),
+            Op::Read => read(self.sheet, reader),
+            Op::Place => place(self.sheet, reader),
+            Op::Resize => self.resize(reader),
+            Op::Poke => self.poke(reader),
+        }
+    }
 
-// A length, or all there is room for. It is the length: a longer one is never lent, as its case is skipped.
-pub fn at_most(length: usize, room: usize) -> usize
-    ensures { result ≤ room }
-{
-    if room < length { room } else { length }
-}
+    // Open: the refusal.
+    fn open(&mut self, reader: &mut Reader) -> Option<bool> {
+        let answers = reader.answers();
+        let buffers = self.buffers.as_mut()?;
+        let refusal = buffers.open(self.sheet);
+        Some(answers.leave(&[u64::from(refusal)], buffers.hash()))
+    }
 
-// Whether the answers at a place are this many, with no output, and the state after them is this one.
-pub fn state_agrees(file: &[u8], at: usize, count: u8, state: State) -> bool {
-    let hashes = after(file, at, 1 + 8 * count as usize);
-    byte_at(file, at) == count
-        && number_is(file, hashes, 0, 1)
-        && number_is(file, hashes, 8, state_hash::of(state))
-}
-
-// Opens, or runs a list of records.
-fn moved(
-    opens: bool,
-    sheet: &[u8],
-    records: &[u8],
-    nodes: &mut [i64],
-    labels: &mut [i64],
-    edges: &mut [i64],
-    incumbent: &mut [u8],
-) -> Answer {
-    if opens {
-        let refusal = messages::open(sheet, nodes, labels, edges, incumbent);
-        return Answer {
-            done: 0,
-            stuck: 0,
-            refusal,
+    // Run: a limit, of no account here, and the records; then the refusal, how many were done and how many stuck.
+    fn run(&mut self, reader: &mut Reader) -> Option<bool> {
+        let _limit = reader.number();
+        let records = reader.field();
+        let answers = reader.answers();
+        let buffers = self.buffers.as_mut()?;
+        let Some(records) = records else {
+            return Some(false);
         };
+        let ran = buffers.run(self.sheet, records);
+        let numbers = [u64::from(ran.refusal), ran.done as u64, ran.stuck as u64];
+        Some(answers.leave(&numbers, buffers.hash()))
     }
-    messages::run(sheet, records, nodes, labels, edges, incumbent)
-}
 
-// The same on as much of each buffer as is lent.
-fn moved_lent(
-    opens: bool,
-    sheet: &[u8],
-    records: &[u8],
-    nodes: &mut [i64],
-    labels: &mut [i64],
-    edges: &mut [i64],
-    incumbent: &mut [u8],
-    n: usize,
-    l: usize,
-    e: usize,
-    k: usize,
-) -> Answer {
-    let n = at_most(n, nodes.len());
-    let l = at_most(l, labels.len());
-    let e = at_most(e, edges.len());
-    let k = at_most(k, incumbent.len());
-    moved(
-        opens,
-        sheet,
-        records,
-        &mut nodes[..n],
-        &mut labels[..l],
-        &mut edges[..e],
-        &mut incumbent[..k],
-    )
-}
-
-// The same on the state.
-fn make_move(opens: bool, sheet: &[u8], records: &[u8], mut state: State) -> Ran {
-    let mut nodes = state.nodes;
-    let mut labels = state.labels;
-    let mut edges = state.edges;
-    let mut incumbent = state.incumbent;
-    let n = state.node_count;
-    let l = state.label_count;
-    let e = state.edge_count;
-    let k = state.incumbent_count;
-    let answer = moved_lent(
-        opens,
-        sheet,
-        records,
-        &mut nodes,
-        &mut labels,
-        &mut edges,
-        &mut incumbent,
-        n,
-        l,
-        e,
-        k,
-    );
-    state.nodes = nodes;
-    state.labels = labels;
-    state.edges = edges;
-    state.incumbent = incumbent;
-    Ran { state, answer }
-}
-
-// Open: the refusal.
-pub fn open(file: &[u8], at: usize, sheet: &[u8], before: State) -> Outcome {
-    let none = [0u8; 1];
-    let opened = make_move(true, sheet, &none[..0], before);
-    let state = opened.state;
-    let answer = opened.answer;
-    let agrees = number_is(file, at, 1, answer.refusal as u64) && state_agrees(file, at, 1, state);
-    Outcome {
-        state,
-        verdict: judged(agrees),
-    }
-}
-
-fn run_agrees(file: &[u8], at: usize, answer: Answer, state: State) -> bool {
-    number_is(file, at, 1, answer.refusal as u64)
-        && number_is(file, at, 9, answer.done as u64)
-        && number_is(file, at, 17, answer.stuck as u64)
-        && state_agrees(file, at, 3, state)
-}
-
-// Run: a limit, of no account here, and the records; then the refusal, how many were done and how many stuck.
-pub fn run(file: &[u8], at: usize, sheet: &[u8], before: State) -> Outcome {
-    let from = after(file, at, 12);
-    let to = past_bytes(file, after(file, at, 8));
-    // records that the file does not hold
-    if file.len() < to || to < from {
-        return Outcome {
-            state: before,
-            verdict: Verdict::Differed,
+    // Report: a limit, of no account here; then the refusal, whether one is kept, the bound, the cost and the gap.
+    fn report(&mut self, reader: &mut Reader) -> Option<bool> {
+        let _limit = reader.number();
+        let answers = reader.answers();
+        let buffers = self.buffers.as_ref()?;
+        let (refusal, kept, costs) = match buffers.report(self.sheet) {
+            Report::Refused(refusal) => (refusal, false, [0, 0, 0]),
+            Report::Bound(bound) => (0, false, [bound, 0, 0]),
+            Report::Kept(bound, cost, gap) => (0, true, [bound, cost, gap]),
         };
+        let [bound, cost, gap] = costs.map(i64::cast_unsigned);
+        let numbers = [u64::from(refusal), u64::from(kept), bound, cost, gap];
+        Some(answers.leave(&numbers, buffers.hash()))
     }
-    let ran = make_move(false, sheet, &file[from..to], before);
-    let state = ran.state;
-    let answer = ran.answer;
-    Outcome {
-        state,
-        verdict: judged(run_agrees(file, to, answer, state)),
+
+    // Resize: a buffer and its length.
+    fn resize(&mut self, reader: &mut Reader) -> Option<bool> {
+        let buffer = Buffer::from(reader.byte());
+        let length = reader.word() as usize;
+        let answers = reader.answers();
+        let mut buffers = self.buffers.take()?;
+        buffers.resize(buffer, length)?;
+        let agrees = answers.leave(&[], buffers.hash());
+        self.buffers = Some(buffers);
+        Some(agrees)
     }
-}
 
-fn report_lent(
-    sheet: &[u8],
-    nodes: &[i64],
-    labels: &[i64],
-    edges: &[i64],
-    incumbent: &[u8],
-    n: usize,
-    l: usize,
-    e: usize,
-    k: usize,
-) -> Report {
-    let n = at_most(n, nodes.len());
-    let l = at_most(l, labels.len());
-    let e = at_most(e, edges.len());
-    let k = at_most(k, incumbent.len());
-    messages::report(
-        sheet,
-        &nodes[..n],
-        &labels[..l],
-        &edges[..e],
-        &incumbent[..k],
-    )
-}
-
-fn make_report(sheet: &[u8], state: State) -> Report {
-    let nodes = state.nodes;
-    let labels = state.labels;
-    let edges = state.edges;
-    let incumbent = state.incumbent;
-    let n = state.node_count;
-    let l = state.label_count;
-    let e = state.edge_count;
-    let k = state.incumbent_count;
-    report_lent(sheet, &nodes, &labels, &edges, &incumbent, n, l, e, k)
-}
-
-// The five numbers of a report: the refusal, whether one is kept, the bound, the cost and the gap.
-fn numbers_are(
-    file: &[u8],
-    at: usize,
-    refusal: u8,
-    kept: u64,
-    bound: i64,
-    cost: i64,
-    gap: i64,
-) -> bool {
-    number_is(file, at, 1, refusal as u64)
-        && number_is(file, at, 9, kept)
-        && cost_is(file, at, 17, bound)
-        && cost_is(file, at, 25, cost)
-        && cost_is(file, at, 33, gap)
-}
-
-fn report_agrees(file: &[u8], at: usize, report: Report) -> bool {
-    match report {
-        Report::Refused(refusal) => numbers_are(file, at, refusal, 0, 0, 0, 0),
-        Report::Bound(bound) => numbers_are(file, at, 0, 0, bound, 0, 0),
-        Report::Kept(bound, cost, gap) => numbers_are(file, at, 0, 1, bound, cost, gap),
+    // Poke: a buffer, a place in it and a value.
+    fn poke(&mut self, reader: &mut Reader) -> Option<bool> {
+        let buffer = Buffer::from(reader.byte());
+        let place = reader.word() as usize;
+        let value = reader.array();
+        let answers = reader.answers();
+        let buffers = self.buffers.as_mut()?;
+        buffers.poke(buffer, place, value);
+        Some(answers.leave(&[], buffers.hash()))
     }
 }
 
-// Report: a limit, of no account here; then the five numbers.
-pub fn report(file: &[u8], at: usize, sheet: &[u8], state: State) -> Outcome {
-    let answers = after(file, at, 8);
-    let report = make_report(sheet, state);
-    let agrees = report_agrees(file, answers, report) && state_agrees(file, answers, 5, state);
-    Outcome {
-        state,
-        verdict: judged(agrees),
+// Show edge: the refusal and the length of the part, and the part as the output.
+fn show(sheet: &[u8], reader: &mut Reader) -> Option<bool> {
+    let edge = reader.word() as usize;
+    let answers = reader.answers();
+    let refusal = instance::edge_refusal(sheet, edge);
+    let prices = instance::edge_prices(sheet, edge);
+    let numbers = [u64::from(refusal), prices.len() as u64];
+    Some(answers.are(&numbers, Hash::new().bytes(prices)))
+}
+
+// Sweep: the refusal, and the lent bytes, which were A5 before, as the output. Skipped where the direction is no byte,
+// and where the lent buffer is longer than there is room for.
+fn sweep(sheet: &[u8], reader: &mut Reader) -> Option<bool> {
+    let direction = reader.word();
+    let length = reader.word() as usize;
+    let answers = reader.answers();
+    let mut out = [0xA5u8; 512];
+    let lent = out.get_mut(..length)?;
+    let refusal = schedule::write_sweep(sheet, u8::try_from(direction).ok()?, lent);
+    Some(answers.are(&[u64::from(refusal)], Hash::new().bytes(lent)))
+}
+
+// Place: the refusal, and the lent bytes, which were A5 before, as the output. Where no matching exists it is left open
+// which set of nodes they name, and the file has no hash of them. Skipped where the lent buffer is longer than there is
+// room for.
+fn place(sheet: &[u8], reader: &mut Reader) -> Option<bool> {
+    let length = reader.word() as usize;
+    let answers = reader.answers();
+    let mut out = [0xA5u8; 64];
+    let lent = out.get_mut(..length)?;
+    let refusal = placing::place(sheet, lent);
+    let numbers = [u64::from(refusal)];
+    if refusal == NO_MATCHING {
+        return Some(answers.numbers_are(&numbers) && names_nodes(lent));
     }
+    Some(answers.are(&numbers, Hash::new().bytes(lent)))
+}
+
+// Whether the bytes name a set of nodes that has a member: each is 0 or 1, and one of them is 1.
+fn names_nodes(bytes: &[u8]) -> bool {
+    bytes.iter().all(|byte| *byte <= 1) && bytes.contains(&1)
+}
+
+// Read: the refusal and the counts, and where the nodes' cells and the edges' tables begin as the output.
+fn read(sheet: &[u8], reader: &mut Reader) -> Option<bool> {
+    let answers = reader.answers();
+    let layout = instance::read(sheet);
+    let numbers = [
+        u64::from(layout.refusal),
+        layout.nodes as u64,
+        layout.labels as u64,
+        layout.edges as u64,
+        layout.positions as u64,
+        layout.cells as u64,
+    ];
+    let starts = Hash::new().words(&layout.starts);
+    Some(answers.are(&numbers, starts.words(&layout.tables)))
 }

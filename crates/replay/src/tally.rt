@@ -1,134 +1,117 @@
-// Counting the calls, for each op by its number.
+// Counting the calls.
+use crate::ops::Op;
+use std::fmt;
 
-#[derive(Clone, Copy)]
+#[derive(Clone, Copy, Debug, PartialEq, Eq)]
 pub enum Verdict {
     Agreed,
     Differed,
     Skipped,
 }
 
-pub fn judged(agreed: bool) -> Verdict {
-    if agreed {
-        Verdict::Agreed
-    } else {
-        Verdict::Differed
-    }
-}
-
-#[derive(Clone, Copy)]
-pub struct Tally {
-    pub compared: [u64; 8],
-    pub differed: [u64; 8],
-    pub skipped: [u64; 8],
-    // the cases gone through to their end
-    pub cases: u64,
-    // the case and its call that are being gone through, counted from 1
-    pub case: u64,
-    pub call: u64,
-    // the first ones that differ, 0 for none
-    pub first_case: u64,
-    pub first_call: u64,
-}
-
-// What is counted for one op.
-#[derive(Clone, Copy)]
-pub struct Counts {
-    pub compared: u64,
-    pub differed: u64,
-    pub skipped: u64,
-}
-
-pub fn empty() -> Tally {
-    Tally {
-        compared: [0; 8],
-        differed: [0; 8],
-        skipped: [0; 8],
-        cases: 0,
-        case: 0,
-        call: 0,
-        first_case: 0,
-        first_call: 0,
-    }
-}
-
-fn more(count: u64) -> u64 {
-    std::num::wrapping_add_u64(count, 1)
-}
-
-// What is no call of the crates, a resize or a poke, is not compared. But where the state after one is not that of the
-// file, this program or the file is wrong, and so that it shows, it counts as an open that differed.
-fn edited(mut tally: Tally, verdict: Verdict) -> Tally {
-    match verdict {
-        Verdict::Differed => {
-            tally.differed[1] = more(tally.differed[1]);
+// Whether the answers are those of the file; none where the call is skipped.
+impl From<Option<bool>> for Verdict {
+    fn from(agreed: Option<bool>) -> Verdict {
+        match agreed {
+            Some(true) => Verdict::Agreed,
+            Some(false) => Verdict::Differed,
+            None => Verdict::Skipped,
         }
-        _ => {}
     }
-    tally
 }
 
-// The next case.
-pub fn case_begun(mut tally: Tally) -> Tally {
-    tally.case = more(tally.case);
-    tally.call = 0;
-    tally
+// What is counted of one op.
+#[derive(Clone, Copy, Default)]
+struct Counts {
+    compared: u64,
+    differed: u64,
+    skipped: u64,
 }
 
-// The next call, and whether it is the first that differs.
-fn called(mut tally: Tally, verdict: Verdict) -> Tally {
-    tally.call = more(tally.call);
-    match verdict {
-        Verdict::Differed => {
-            if tally.first_case == 0 {
-                tally.first_case = tally.case;
-                tally.first_call = tally.call;
+impl Counts {
+    fn add(&mut self, verdict: Verdict) {
+        match verdict {
+            Verdict::Skipped => self.skipped = self.skipped.saturating_add(1),
+            Verdict::Agreed => self.compared = self.compared.saturating_add(1),
+            Verdict::Differed => {
+                self.compared = self.compared.saturating_add(1);
+                self.differed = self.differed.saturating_add(1);
             }
         }
-        _ => {}
     }
-    tally
 }
 
-// Counts one call.
-pub fn counted(before: Tally, op: u8, verdict: Verdict) -> Tally {
-    let mut tally = called(before, verdict);
-    let k = op as usize;
-    if 8 <= k {
-        return edited(tally, verdict);
+impl fmt::Display for Counts {
+    fn fmt<W: fmt::Write>(&self, f: &mut fmt::Formatter<W>) -> fmt::Result {
+        let compared = self.compared;
+        let differed = self.differed;
+        let skipped = self.skipped;
+        write!(
+            f,
+            "compared {compared} differed {differed} skipped {skipped}"
+        )
     }
-    match verdict {
-        Verdict::Agreed => {
-            tally.compared[k] = more(tally.compared[k]);
-        }
-        Verdict::Differed => {
-            tally.compared[k] = more(tally.compared[k]);
-            tally.differed[k] = more(tally.differed[k]);
-        }
-        Verdict::Skipped => {
-            tally.skipped[k] = more(tally.skipped[k]);
-        }
-    }
-    tally
 }
 
-// Counts one case.
-pub fn case_done(mut tally: Tally) -> Tally {
-    tally.cases = more(tally.cases);
-    tally
+// A case, and a call in it, both counted from 1.
+#[derive(Clone, Copy, Default)]
+struct Place {
+    case: u64,
+    call: u64,
 }
 
-pub fn of(tally: Tally, op: u8) -> Counts {
-    let k = op as usize;
-    if 8 <= k {
-        return Counts {
-            compared: 0,
-            differed: 0,
-            skipped: 0,
-        };
+#[derive(Clone, Copy, Default)]
+pub struct Tally {
+    // of each op, by its number among them
+    counts: [Counts; 9],
+    // the cases gone through to their end
+    cases: u64,
+    // the call that is being gone through
+    at: Place,
+    first_differed: Option<Place>,
+}
+
+impl Tally {
+    pub fn begin_case(&mut self) {
+        self.at.case = self.at.case.saturating_add(1);
+        self.at.call = 0;
     }
-    Counts {
-        compared: tally.compared[k],
-        differed: tally.differed[k],
-        skipped: tally.skipped[k],
+
+    pub fn end_case(&mut self) {
+        self.cases = self.cases.saturating_add(1);
+    }
+
+    // Counts one call. An edit of the buffers is no call of the crates, and is not compared. But where the buffers
+    // after it are not those of the file, this program or the file is wrong, and so that it shows, it counts as an open
+    // that differed.
+    pub fn add(&mut self, op: Op, verdict: Verdict) {
+        self.at.call = self.at.call.saturating_add(1);
+        if verdict == Verdict::Differed {
+            self.first_differed = self.first_differed.or(Some(self.at));
+        }
+        match op {
+            Op::Resize | Op::Poke => {
+                if verdict == Verdict::Differed {
+                    let open = &mut self.counts[Op::Open as usize];
+                    open.differed = open.differed.saturating_add(1);
+                }
+            }
+            _ => self.counts[op as usize].add(verdict),
+        }
+    }
+}
+
+impl fmt::Display for Tally {
+    fn fmt<W: fmt::Write>(&self, f: &mut fmt::Formatter<W>) -> fmt::Result {
+        for op in Op::CALLS {
+            let counts = self.counts[op as usize];
+            writeln!(f, "{op} {counts}")?;
+        }
+        let cases = self.cases;
+        writeln!(f, "cases {cases}")?;
+        match self.first_differed {
+            None => writeln!(f, "no case differs"),
+            Some(Place { case, call }) => writeln!(f, "case {case} call {call} differs"),
+        }
     }
 }

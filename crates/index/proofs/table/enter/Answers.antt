@@ -1,6 +1,6 @@
 -- `enter` meets its contract: the thing after the others of its row, and one more of them; or nothing.
-use mathlib.Core.Path.{sym, ap, ◌∙◌}
-use Prim.Native.Nat.{ℕ, ◌+◌, ◌*◌}
+use mathlib.Core.Path.{sym, ◌∙◌}
+use Prim.Native.Nat.{◌+◌, ◌*◌}
 use lib.ListN.{set}
 use Rattle.index.proofs.Filling.{entered_in, entered_full, entered_past}
 use Rattle.index.proofs.table.enter.Goals as goal
@@ -8,16 +8,14 @@ use Rattle.index.proofs.table.enter.Goals as goal
 pub returns-then-many-lt64 : goal.returns-then-many-lt64
 returns-then-many-lt64 c =
     let a = c.args in
-    let n = c.number-many.ensures.0 in
-    let s = c.short.ensures in
-    let t = c.short-then-many-lt64.ensures ∙ ap (λ (m : ℕ). m + 1) n in
-    (λ j. set (set a.index.now (65 * a.key + 1 + n j) (s j)) (65 * a.key) (t j))
+    let n = c.from-many.ensures in
+    (λ j. set (set a.index.now (65 * a.key + 1 + n j) a.thing) (65 * a.key) (n j + 1))
     ∙ sym (entered_in a.index.now a.key a.thing c.if-key-lt64.true (rw n at c.if-many-lt64.true))
 
 pub returns-else-many-lt64 : goal.returns-else-many-lt64
 returns-else-many-lt64 c =
     let a = c.args in
-    sym (entered_full a.index.now a.key a.thing (rw c.number-many.ensures.0 at c.if-many-lt64.false))
+    sym (entered_full a.index.now a.key a.thing (rw c.from-many.ensures at c.if-many-lt64.false))
 
 pub returns-else-key-lt64 : goal.returns-else-key-lt64
 returns-else-key-lt64 c = let a = c.args in sym (entered_past a.index.now a.key a.thing c.if-key-lt64.false)

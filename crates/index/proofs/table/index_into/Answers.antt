@@ -20,14 +20,14 @@ module _ (p : In-loop-thing) where
   abbrev i : ℕ
   i = p.loop-thing.thing
 
-  counted : Things (length bytes) stride p.count-things.result
-  counted = p.count-things.ensures
+  counted : Things (length bytes) stride p.count-thing-end.result
+  counted = p.count-thing-end.ensures
 
   inside : stride * i < length bytes
   inside = thing_is (length bytes) stride i (counted.each i p.loop-thing-test.true)
 
 pub loop-thing-init : goal.loop-thing-init
-loop-thing-init c = (omega arith, filled_none (key_at c.args.bytes.now c.args.stride))
+loop-thing-init c = filled_none (key_at c.args.bytes.now c.args.stride)
 
 pub overflow_mul-stride : goal.overflow_mul-stride
 overflow_mul-stride c = omega (arith, inside (goal.at.overflow_mul-stride c).In-loop-thing, c.ranges)
@@ -35,24 +35,13 @@ overflow_mul-stride c = omega (arith, inside (goal.at.overflow_mul-stride c).In-
 pub bounds-bytes-stride : goal.bounds-bytes-stride
 bounds-bytes-stride c = inside (goal.at.bounds-bytes-stride c).In-loop-thing
 
-pub enter-requires : goal.enter-requires
-enter-requires c = omega (arith, (counted (goal.at.enter-requires c).In-loop-thing).few, c.loop-thing-test.true)
-
-pub overflow_add-thing : goal.overflow_add-thing
-overflow_add-thing c = omega (arith, (counted (goal.at.overflow_add-thing c).In-loop-thing).few, c.loop-thing-test.true)
-
-pub loop-thing-smaller : goal.loop-thing-smaller
-loop-thing-smaller c = omega (arith, c.loop-thing-test.true)
-
 pub loop-thing-preserved : goal.loop-thing-preserved
 loop-thing-preserved c =
-    let p = (goal.at.loop-thing-preserved c).In-loop-thing in (
-      omega (arith, c.loop-thing-test.true),
-      c.enter.ensures ∙ ap₂ (λ (l : List ℕ) (k : ℕ). entered l k (i p)) c.loop-thing.invariant.1 c.wide.ensures.0 ∙ filled_more (key_at (bytes p) (stride p)) (i p),
-    )
+    let p = (goal.at.loop-thing-preserved c).In-loop-thing in
+    c.enter.ensures ∙ ap₂ (λ (l : List ℕ) (k : ℕ). entered l k (i p)) c.loop-thing.invariant c.from.ensures ∙ filled_more (key_at (bytes p) (stride p)) (i p)
 
 pub returns : goal.returns
 returns c =
     let a = c.args in
-    let e : c.loop-thing.thing ≡ c.count-things.result = omega (arith, c.loop-thing.invariant.0, c.loop-thing-test.false) in
-    c.loop-thing.invariant.1 ∙ ap (filled (key_at a.bytes.now a.stride)) e ∙ filled_all a.bytes.now a.stride c.count-things.ensures
+    let e : c.loop-thing.thing ≡ c.count-thing-end.result = omega arith in
+    c.loop-thing.invariant ∙ ap (filled (key_at a.bytes.now a.stride)) e ∙ filled_all a.bytes.now a.stride c.count-thing-end.ensures

@@ -1,12 +1,8 @@
 -- `index_into` meets its contract: zeros, the index of the things so far, and of one more.
-use Prim.Native.Nat.{◌-◌, ◌≤◌}
 use mathlib.Core.Path.{◌≡◌}
 use Rattle.index.specs.Index.{key_at}
 use Rattle.index.proofs.Filling.{filled}
 use Rattle.index.proofs.table.index_into.Given as goal
 
 abbrev pub invariant-loop-thing : goal.invariant-loop-thing
-invariant-loop-thing l = (l.thing ≤ l.things) × (l.index ≡ filled (key_at l.bytes l.stride) l.thing)
-
-abbrev pub decreases-loop-thing : goal.decreases-loop-thing
-decreases-loop-thing l = l.things - l.thing
+invariant-loop-thing l = l.index ≡ filled (key_at l.bytes l.stride) l.thing

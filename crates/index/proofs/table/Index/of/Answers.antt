@@ -1,0 +1,8 @@
+-- `of` meets its contract: what `index_into` answers has no row of more than 64.
+use mathlib.Core.Path.{sym, subst}
+use Rattle.index.specs.Index.{Few}
+use Rattle.index.proofs.Indexed.{index_few}
+use Rattle.index.proofs.table.Index.of.Goals as goal
+
+pub invariant_of-result : goal.invariant_of-result
+invariant_of-result c = subst Few (sym c.index_into.ensures) (index_few _ _)

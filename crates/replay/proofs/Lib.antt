@@ -1,2 +1,0 @@
--- Laws of the program that replays vectors.
-pub mod CostLaws

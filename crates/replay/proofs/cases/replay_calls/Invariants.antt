@@ -1,8 +1,0 @@
--- `replay_calls` is safe and ends: each turn leaves one call fewer.
-use Rattle.replay.proofs.cases.replay_calls.Given as goal
-
-abbrev pub invariant-loop-left : goal.invariant-loop-left
-invariant-loop-left l = Unit {0}
-
-abbrev pub decreases-loop-left : goal.decreases-loop-left
-decreases-loop-left l = l.left

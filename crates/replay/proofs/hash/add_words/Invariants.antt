@@ -1,9 +1,0 @@
--- `add_words` meets its contract: the hash stays below the modulus.
-use Rattle.std.proofs.Common.{◌-◌, ◌<◌, length}
-use Rattle.replay.proofs.hash.add_words.Given as goal
-
-abbrev pub invariant-loop-i : goal.invariant-loop-i
-invariant-loop-i l = l.h < 4294967291
-
-abbrev pub decreases-loop-i : goal.decreases-loop-i
-decreases-loop-i l = length l.words - l.i

@@ -1,9 +1,0 @@
--- `names_nodes` is safe and ends.
-use Rattle.std.proofs.Common.{◌-◌, length}
-use Rattle.replay.proofs.ops.names_nodes.Given as goal
-
-abbrev pub invariant-loop-i : goal.invariant-loop-i
-invariant-loop-i l = Unit {0}
-
-abbrev pub decreases-loop-i : goal.decreases-loop-i
-decreases-loop-i l = length l.bytes - l.i
