@@ -6,6 +6,7 @@ mod answer;
 mod greedy;
 mod lowering;
 mod moves;
+mod seats;
 mod search;
 mod smallest;
 mod tables;
