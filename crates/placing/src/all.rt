@@ -21,7 +21,8 @@ impl<'a> Seats<'a> {
             (λ no. Blocked (rows_of self.old.nodes.now.count self.old.nodes.now.sets self.old.nodes.now.own) (caught no.root no.seen no.taken)) }
     {
         for u in 0..self.nodes.count {
-            if self.nodes.own[u] {
+            let vanishes = self.nodes.own[u];
+            if vanishes {
                 continue;
             }
             if let Err(seen) = self.chain(self.nodes.sets[u], 0, u) {

@@ -18,13 +18,13 @@ loop-u-preserved c =
     let opened = bit_and (entry N.sets t.u) t.free in
     let fit : opened < 2 ^ 64 = omega (arith, and_le_l (entry N.sets t.u) t.free, N.fit t.u) in
     elim c.if-open-ne0.branch [
-      then-open-ne0 w ↦
-        let l = w.lowest-l.result in
-        let e = w.free-is ∙ ap (bit_xor t.free) w.bit_of-free.ensures in
-        transport (λ j. Taking N.count N.sets N.own (sym w.taken-is j) (sym e j) (t.u + 1))
-        (taking_more t.invariant N.few h (least_of opened l fit w.if-open-ne0.true w.lowest-l.ensures))
+      | then-open-ne0 w ↦
+          let l = w.lowest-l.result in
+          let e = w.free-is ∙ ap (bit_xor t.free) w.bit_of-free.ensures in
+          transport (λ j. Taking N.count N.sets N.own (sym w.taken-is j) (sym e j) (t.u + 1))
+          (taking_more t.invariant N.few h (least_of opened l fit w.if-open-ne0.true w.lowest-l.ensures))
       | else-open-ne0+then-nodes-u w ↦
-        transport (λ j. Taking N.count N.sets N.own (sym w.taken-is j) (sym w.free-is j) (t.u + 1)) (taking_last t.invariant N.few h w.if-nodes-u.true w.if-open-ne0.false)
+          transport (λ j. Taking N.count N.sets N.own (sym w.taken-is j) (sym w.free-is j) (t.u + 1)) (taking_last t.invariant N.few h w.if-nodes-u.true w.if-open-ne0.false)
     ]
 
 pub returns : goal.returns

@@ -16,4 +16,3 @@ returns-then-label-lt64 c =
       rw e (or_lt 64 q.word (2 ^ q.label) c.ranges.word.fits (power_fits q.label h)),
       λ x _. ap (λ (w : ℕ). bit (bit_or q.word w) x) e ∙ bit_or_lem q.word (2 ^ q.label) x ∙ ap (◌||◌ (bit q.word x)) (bit_power q.label x),
     )
-

@@ -24,9 +24,12 @@ loop-rest-init c =
     let s = c.args.self.now in let new = c.leave.new.self in
     let e = c.leave.ensures.same in
     let h = few (goal.at.loop-rest-init c).Start in
-    let z = c.args.closed in
-    (e, c.leave.ensures.taken, subst (λ n. Trying s.nodes.now.sets s.taken new.holders new.reach z c.args.u new.free z (bit_xor (bit_or (entry n.sets c.args.u) z) z)) (sym e)
-    (trying_none s.linked h c.ranges.closed.fits (linked_as (ap (λ n. n.sets) e) c.leave.ensures.taken new.linked)))
+    let z = c.args.closed in (
+      e,
+      c.leave.ensures.taken,
+      subst (λ n. Trying s.nodes.now.sets s.taken new.holders new.reach z c.args.u new.free z (bit_xor (bit_or (entry n.sets c.args.u) z) z)) (sym e)
+          (trying_none s.linked h c.ranges.closed.fits (linked_as (ap (λ n. n.sets) e) c.leave.ensures.taken new.linked)),
+    )
 
 -- the lowest label of the turn
 low : (t : After-lowest-l) → Least t.loop-rest.rest t.lowest-l.result
@@ -83,7 +86,7 @@ returns-then-label-lt64-clause-lowest c =
     let t = (goal.at.returns-then-label-lt64-clause-lowest c).At-loop-rest in
     let taken = c.args.self.now.taken in let u = c.args.u in let rest = c.loop-rest.rest in
     let least : (x : ℕ) → bit rest x ≡ true → entry taken u ≤ x = elim c.loop-rest-test.branch [
-      else-loop-rest-test w ↦ λ x e. absurd (some_bit rest x e w.loop-rest-test.false)
+      | else-loop-rest-test w ↦ λ x e. absurd (some_bit rest x e w.loop-rest-test.false)
       | then-loop-rest-test+then-l-label w ↦ reached rest w.lowest-l.result (entry taken u) (least_of rest w.lowest-l.result c.loop-rest.invariant.2.fit_rest w.loop-rest-test.true w.lowest-l.ensures) w.if-l-label.true
     ] in
     stays t least (c.give.ensures.taken ∙ ap₂ (λ (t : List ℕ) (x : ℕ). set t u x) c.loop-rest.invariant.1 c.from.ensures ∙ set-set taken u 255 (entry taken u) ∙ set-get_or taken u 0)
@@ -93,7 +96,7 @@ returns-else-label-lt64-clause-lowest c =
     let t = (goal.at.returns-else-label-lt64-clause-lowest c).At-loop-rest in
     let taken = c.args.self.now.taken in let u = c.args.u in let rest = c.loop-rest.rest in
     let least : (x : ℕ) → bit rest x ≡ true → entry taken u ≤ x = elim c.loop-rest-test.branch [
-      else-loop-rest-test w ↦ λ x e. absurd (some_bit rest x e w.loop-rest-test.false)
+      | else-loop-rest-test w ↦ λ x e. absurd (some_bit rest x e w.loop-rest-test.false)
       | then-loop-rest-test+then-l-label w ↦ reached rest w.lowest-l.result (entry taken u) (least_of rest w.lowest-l.result c.loop-rest.invariant.2.fit_rest w.loop-rest-test.true w.lowest-l.ensures) w.if-l-label.true
     ] in
     stays t least (c.loop-rest.invariant.1 ∙ ap (set taken u) (sym (c.requires.0.seated.seat u c.requires.1 c.if-label-lt64.false).0) ∙ set-get_or taken u 0)

@@ -15,9 +15,9 @@ few t = omega (arith, t.loop-u-test.true, t.args.self.now.nodes.now.few)
 pub loop-u-init : goal.loop-u-init
 loop-u-init c = (refl, record { seat = λ u g. absurd (omega arith); later = λ u _. c.requires u; vacant = λ u _ g _. c.requires u g })
 
-pub loop-u-preserved-then-self-u : goal.loop-u-preserved-then-self-u
-loop-u-preserved-then-self-u c =
-    let v = c.loop-u.invariant in (v.0, seated_own c.loop-u.self.linked v.1 (few (goal.at.loop-u-preserved-then-self-u c).In-loop-u) c.if-self-u.true)
+pub loop-u-preserved-then-vanishes : goal.loop-u-preserved-then-vanishes
+loop-u-preserved-then-vanishes c =
+    let v = c.loop-u.invariant in (v.0, seated_own c.loop-u.self.linked v.1 (few (goal.at.loop-u-preserved-then-vanishes c).In-loop-u) c.if-vanishes.true)
 
 pub chain-requires : goal.chain-requires
 chain-requires c =
@@ -30,13 +30,15 @@ returns-in-Err-clause-answer c =
     let (same, ended) = c.in-Err.ensures.barred in
     let inside : c.loop-u.u < c.loop-u.self.nodes.now.count = omega (arith, c.loop-u-test.true, ap (λ n. n.count) v.0) in
     subst (λ n. Blocked (rows_of n.count n.sets n.own) (caught c.loop-u.u c.in-Err.seen c.chain.new.self.taken)) v.0
-    (rw same (seated_blocked c.loop-u.self.linked v.1 (few (goal.at.returns-in-Err-clause-answer c).In-loop-u) inside c.if-self-u.false ended))
+    (rw same (seated_blocked c.loop-u.self.linked v.1 (few (goal.at.returns-in-Err-clause-answer c).In-loop-u) inside c.if-vanishes.false ended))
 
 pub loop-u-preserved : goal.loop-u-preserved
 loop-u-preserved c =
-    let v = c.loop-u.invariant in let s = c.in_default.ensures in
-    (s.same ∙ v.0, subst (λ n. Seated n.own 0 (c.loop-u.u + 1) c.chain.new.self.taken) (sym s.same)
-    (seated_more c.loop-u.self.linked v.1 (few (goal.at.loop-u-preserved c).In-loop-u) c.if-self-u.false s.placed))
+    let v = c.loop-u.invariant in let s = c.in_default.ensures in (
+      s.same ∙ v.0,
+      subst (λ n. Seated n.own 0 (c.loop-u.u + 1) c.chain.new.self.taken) (sym s.same)
+          (seated_more c.loop-u.self.linked v.1 (few (goal.at.loop-u-preserved c).In-loop-u) c.if-vanishes.false s.placed),
+    )
 
 pub returns-clause-answer : goal.returns-clause-answer
 returns-clause-answer c =

@@ -31,26 +31,31 @@ give-requires c =
     let h = c.loop-i-test.true in
     let e = sym c.has.ensures ∙ c.if-has.true in
     let f = c.from-from.ensures in
-    let g = c.from-holder.ensures in
-    (holder_few a m v h e f g, moving_small a m v, left_unplaced a m v h e f g c.leave.ensures.taken, still_free a m v h e f g c.leave.ensures.free,
-      rw (c.leave.ensures.same, c.loop-i.invariant.0) (holder_has a m v h e f g))
+    let g = c.from-holder.ensures in (
+      holder_few a m v h e f g,
+      moving_small a m v,
+      left_unplaced a m v h e f g c.leave.ensures.taken,
+      still_free a m v h e f g c.leave.ensures.free,
+      rw (c.leave.ensures.same, c.loop-i.invariant.0) (holder_has a m v h e f g),
+    )
 
 pub loop-i-preserved-then-has : goal.loop-i-preserved-then-has
 loop-i-preserved-then-has c =
     let same = c.leave.ensures.same ∙ c.loop-i.invariant.0 in
-    let new = c.give.new.self in
-    (c.give.ensures.same ∙ same,
+    let new = c.give.new.self in (
+      c.give.ensures.same ∙ same,
       λ start before a m. moving_more a m (c.loop-i.invariant.1 start before a m) c.loop-i-test.true (sym c.has.ensures ∙ c.if-has.true) c.from-from.ensures c.from-holder.ensures c.leave.ensures.free
-        (c.give.ensures.taken ∙ ap (λ (t : List ℕ). set t c.from-holder.result c.loop-i.l) c.leave.ensures.taken)
-        (c.give.ensures.reach ∙ ap₂ (λ (r s : List ℕ). set r c.loop-i.l (entry s c.from-holder.result)) c.leave.ensures.reach (ap (λ n. n.sets) same))
-        c.give.ensures.free
-        (subst (λ n. Linked n.sets new.taken new.holders new.reach new.free) (c.give.ensures.same ∙ same) new.linked))
+          (c.give.ensures.taken ∙ ap (λ (t : List ℕ). set t c.from-holder.result c.loop-i.l) c.leave.ensures.taken)
+          (c.give.ensures.reach ∙ ap₂ (λ (r s : List ℕ). set r c.loop-i.l (entry s c.from-holder.result)) c.leave.ensures.reach (ap (λ n. n.sets) same))
+          c.give.ensures.free
+          (subst (λ n. Linked n.sets new.taken new.holders new.reach new.free) (c.give.ensures.same ∙ same) new.linked),
+    )
 
 pub loop-i-preserved : goal.loop-i-preserved
 loop-i-preserved c = (c.loop-i.invariant.0, λ start before a m. moving_past a m (c.loop-i.invariant.1 start before a m) c.loop-i-test.true (sym c.has.ensures ∙ c.if-has.false))
 
 pub give-requires-2 : goal.give-requires-2
-give-requires-2 c = 
+give-requires-2 c =
     let (start, before, a, m) = c.requires in
     let v = c.loop-i.invariant.1 start before a m in
     let z : c.loop-i.i ≡ 0 = omega (arith, c.loop-i-test.false) in
