@@ -4,7 +4,7 @@ use mathlib.Core.Path.{◌≡◌, refl, sym, ap, ap₂, ◌∙◌}
 use mathlib.Core.Bool.{Bool, true, false, cond, ◌&&◌}
 use mathlib.Core.List.{List}
 use mathlib.Core.Logic.{◌⊎◌, inl, inr, ⊎_elim}
-use Prim.Native.Nat.{ℕ, suc, ◌+◌, ◌-◌, ◌^◌, ◌≤◌, ◌<◌}
+use Prim.Native.Nat.{ℕ, zero, suc, ◌+◌, ◌-◌, ◌^◌, ◌≤◌, ◌<◌}
 use native.Mathlib.Numerals.{add-one}
 use native.Mathlib.Omega.{arith}
 use borrow.Author.Count.{below_more}
@@ -12,7 +12,8 @@ use borrow.Author.Tests.{eqb-true, eqb-false, eq-eqb, lt-ltb, le-ltb}
 use lib.Bits.{bit_and, bit_or}
 use lib.Count.{ones}
 use lib.Dec.{eqb, ltb}
-use lib.ListN.{length, set, length-set}
+use lib.ListN.{length, set, take, length-set}
+use Rattle.std.proofs.lemmas.List.{length-take-le, get_or-take}
 use lib.Seq.{get_or-set_same, get_or-set_other}
 use mir.Val.{bool_byte}
 use Rattle.integers.specs.Words.{bit, word_of, Words}
@@ -32,6 +33,15 @@ use Rattle.placing.specs.Labels.{Labels, Worded}
 pub byte_is : (b : Bool) → bool_byte b ≡ cond b 1 0
 byte_is true = refl
 byte_is false = refl
+
+-- words of the same numbers, and of the first of a list
+word_same : (f g : ℕ → ℕ) (d : ℕ) → ((k : ℕ) → k < d → f k ≡ g k) → word_of f d ≡ word_of g d
+unfolding word_of
+word_same f g zero h = refl
+word_same f g (suc d) h = ap₂ bit_or (word_same f g d (λ k j. h k (omega arith))) (ap (λ (x : ℕ). 2 ^ x) (h d (omega arith)))
+
+pub word_part : (l : List ℕ) (m : ℕ) → m ≤ length l → word_of (entry (take m l)) (length (take m l)) ≡ word_of (entry l) m
+word_part l m h = ap (word_of (entry (take m l))) (length-take-le m l h) ∙ word_same (entry (take m l)) (entry l) m (λ k j. get_or-take m l k 0 j)
 
 -- one label more in a word
 pub word_more : (f : ℕ → ℕ) (i : ℕ) → word_of f (i + 1) ≡ bit_or (word_of f i) (2 ^ f i)

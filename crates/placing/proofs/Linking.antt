@@ -1,19 +1,20 @@
 -- A node takes a label that is free, or leaves the one that it takes: the tables stay linked.
 -- Assumes nothing.
-use mathlib.Core.Path.{◌≡◌, refl, sym, ap, ◌∙◌, subst}
+use mathlib.Core.Path.{◌≡◌, refl, sym, ap, ◌∙◌, subst, transport}
 use mathlib.Core.Bool.{true, false, ◌||◌}
 use mathlib.Core.List.{List, [], ◌∷◌}
-use Prim.Native.Nat.{ℕ, zero, suc, ◌-◌, ◌^◌, ◌<◌}
+use Prim.Native.Nat.{ℕ, zero, suc, ◌-◌, ◌^◌, ◌≤◌, ◌<◌}
 use native.Mathlib.Omega.{arith}
 use borrow.Author.Tests.{ne_eqb, eqb-false, ltb-true, ltb-false}
+use lib.Bits.{bit_xor, xor_lt}
 use lib.Dec.{eqb, ltb, lit<}
 use lib.ListN.{length, set, replicate, length-set, get_or-replicate, get_or-eq_default}
 use lib.Seq.{get_or-set_same, get_or-set_other}
 use Rattle.integers.specs.Words.{bit, Words}
 use Rattle.integers.proofs.Places.{by-test}
-use Rattle.integers.proofs.Words.{bit_full}
+use Rattle.integers.proofs.Words.{bit_full, bit_dropped, bit_kept, power_fits}
 use Rattle.assignment.proofs.Counts.{differ, by-same}
-use Rattle.placing.specs.Words.{entry, Linked}
+use Rattle.placing.specs.Words.{entry, Linked, Joined}
 use Rattle.placing.proofs.Searching.{or_fails}
 
 -- a table of words with one set
@@ -35,23 +36,22 @@ module _ {sets taken holders reach : List ℕ} {free : ℕ} (k : Linked sets tak
   pub linked_distinct : (u w : ℕ) → u < 64 → w < 64 → entry taken u < 64 → entry taken u ≡ entry taken w → u ≡ w
   linked_distinct u w h g l e = sym (k.taker u h l).1 ∙ ap (entry holders) e ∙ (k.taker w g (omega arith)).1
 
-  -- u takes the label l, which is free, and leaves the one that it had
-  module _ {u l left : ℕ} (h : u < 64) (s : l < 64) (vacant : bit free l ≡ true) (own : bit (entry sets u) l ≡ true) (fit : left < 2 ^ 64) (gone : bit left l ≡ false)
-      (rest : (x : ℕ) → x < 64 → (x ≡ l → ⊥) → bit left x ≡ (bit free x || eqb x (entry taken u))) where
-    room₁ : u < length taken
-    room₁ = omega (arith, k.size_taken)
-
-    room₂ : l < length holders
-    room₂ = omega (arith, k.size_holders)
-
-    room₃ : l < length reach
-    room₃ = omega (arith, k.size_reach)
+  -- u, which takes none, takes the label l, which is free
+  module _ {u : ℕ} (l : ℕ) (h : u < 64) (small : l < 64) (none : 64 ≤ entry taken u) (vacant : bit free l ≡ true) (own : bit (entry sets u) l ≡ true) where
+    abbrev left : ℕ
+    left = bit_xor free (2 ^ l)
 
     at : entry (set taken u l) u ≡ l
-    at = get_or-set_same taken u l 0 room₁
+    at = get_or-set_same taken u l 0 (omega (arith, k.size_taken))
 
     elsewhere : (w : ℕ) → (w ≡ u → ⊥) → entry (set taken u l) w ≡ entry taken w
     elsewhere w d = get_or-set_other taken u w l 0 d
+
+    holds : entry (set holders l u) l ≡ u
+    holds = get_or-set_same holders l u 0 (omega (arith, small, k.size_holders))
+
+    word : entry (set reach l (entry sets u)) l ≡ entry sets u
+    word = get_or-set_same reach l (entry sets u) 0 (omega (arith, small, k.size_reach))
 
     pub linked_take : Linked sets (set taken u l) (set holders l u) (set reach l (entry sets u)) left
     linked_take = record {
@@ -60,35 +60,36 @@ module _ {sets taken holders reach : List ℕ} {free : ℕ} (k : Linked sets tak
       size_reach = simp length-set k.size_reach;
       fit_sets = k.fit_sets;
       fit_reach = words_set reach l (entry sets u) k.fit_reach (k.fit_sets u);
-      fit_free = fit;
+      fit_free = xor_lt 64 free (2 ^ l) k.fit_free (power_fits l small);
       inside = λ w g b. by-same w u
           (λ e. subst (λ v. bit (entry sets v) (entry (set taken u l) v) ≡ true) (sym e) (rw at own))
           (λ d. rw (elsewhere w d) (k.inside w g (rw (elsewhere w d) at b)));
       taker = λ w g b. by-same w u
-          (λ e. subst (λ v. (bit left (entry (set taken u l) v) ≡ false) × (entry (set holders l u) (entry (set taken u l) v) ≡ v)) (sym e) (rw at (gone, get_or-set_same holders l u 0 room₂)))
-          (λ d. rw (elsewhere w d) (other w g d (rw (elsewhere w d) at b)));
+          (λ e. subst (λ v. (bit left (entry (set taken u l) v) ≡ false) × (entry (set holders l u) (entry (set taken u l) v) ≡ v)) (sym e) (rw at (bit_dropped free l vacant, holds)))
+          (λ d. rw (elsewhere w d) (other w g (rw (elsewhere w d) at b)));
       held = λ x g z. by-same x l
           (λ e. subst (λ y. (entry (set holders l u) y < 64) × (entry (set taken u l) (entry (set holders l u) y) ≡ y) × (entry (set reach l (entry sets u)) y ≡ entry sets (entry (set holders l u) y))) (sym e)
-          (rw (get_or-set_same holders l u 0 room₂) (h, at, get_or-set_same reach l (entry sets u) 0 room₃)))
+          (rw holds (h, at, word)))
           (λ d. rw (get_or-set_other holders l x u 0 d, get_or-set_other reach l x (entry sets u) 0 d) (kept x g d z));
     }
       where
-        other : (w : ℕ) → w < 64 → (w ≡ u → ⊥) → entry taken w < 64 → (bit left (entry taken w) ≡ false) × (entry (set holders l u) (entry taken w) ≡ w)
-        other w g d b =
+        other : (w : ℕ) → w < 64 → entry taken w < 64 → (bit left (entry taken w) ≡ false) × (entry (set holders l u) (entry taken w) ≡ w)
+        other w g b =
             let (f, e) = k.taker w g b in
             let n : entry taken w ≡ l → ⊥ = (λ q. differ vacant (ap (bit free) (sym q) ∙ f)) in
-            let m : eqb (entry taken w) (entry taken u) ≡ false = ne_eqb (entry taken w) (entry taken u) (λ q. d (linked_distinct w u g h b q)) in
-            (rest (entry taken w) b n ∙ rw (f, m), get_or-set_other holders l (entry taken w) u 0 n ∙ e)
+            (bit_kept free l (entry taken w) n ∙ f, get_or-set_other holders l (entry taken w) u 0 n ∙ e)
 
         kept : (x : ℕ) → x < 64 → (x ≡ l → ⊥) → bit left x ≡ false
             → (entry holders x < 64) × (entry (set taken u l) (entry holders x) ≡ x) × (entry reach x ≡ entry sets (entry holders x))
         kept x g d z =
-            let (f, n) = or_fails (bit free x) (eqb x (entry taken u)) (sym (rest x g d) ∙ z) in
-            let (a, b, c) = k.held x g f in
-            (a, elsewhere (entry holders x) (λ q. eqb-false x (entry taken u) n (sym b ∙ ap (entry taken) q)) ∙ b, c)
+            let (a, b, c) = k.held x g (sym (bit_kept free l x d) ∙ z) in
+            (a, elsewhere (entry holders x) (λ q. omega (arith, ap (entry taken) q)) ∙ b, c)
 
   -- u leaves its label, if it takes one
-  module _ {u left : ℕ} (h : u < 64) (fit : left < 2 ^ 64) (rest : (x : ℕ) → x < 64 → bit left x ≡ (bit free x || eqb x (entry taken u))) where
+  module _ {u left : ℕ} (h : u < 64) (joined : Joined free (entry taken u) left) where
+    rest : (x : ℕ) → x < 64 → bit left x ≡ (bit free x || eqb x (entry taken u))
+    rest = joined.1
+
     away : entry (set taken u 255) u ≡ 255
     away = get_or-set_same taken u 255 0 (omega (arith, k.size_taken))
 
@@ -102,7 +103,7 @@ module _ {sets taken holders reach : List ℕ} {free : ℕ} (k : Linked sets tak
       size_reach = k.size_reach;
       fit_sets = k.fit_sets;
       fit_reach = k.fit_reach;
-      fit_free = fit;
+      fit_free = joined.0;
       inside = λ w g b. rw (others w (not_away w b)) (k.inside w g (rw (others w (not_away w b)) at b));
       taker = λ w g b. rw (others w (not_away w b)) (still w g (not_away w b) (rw (others w (not_away w b)) at b));
       held = λ x g z.
@@ -119,11 +120,9 @@ module _ {sets taken holders reach : List ℕ} {free : ℕ} (k : Linked sets tak
             let (f, e) = k.taker w g b in
             (rest (entry taken w) b ∙ rw (f, ne_eqb (entry taken w) (entry taken u) (λ q. d (linked_distinct w u g h b q))), e)
 
--- a place left and taken again
-pub set_back : (t : List ℕ) (i x : ℕ) → set (set t i x) i (entry t i) ≡ t
-set_back [] i x = refl
-set_back (y ∷ t) zero x = refl
-set_back (y ∷ t) (suc i) x = ap (◌∷◌ y) (set_back t i x)
+-- the same tables under other names
+pub linked_as : {sets sets' taken taken' holders reach : List ℕ} {free : ℕ} → sets ≡ sets' → taken ≡ taken' → Linked sets taken holders reach free → Linked sets' taken' holders reach free
+linked_as {holders = holders} {reach} {free} e f k = transport (λ j. Linked (e j) (f j) holders reach free) k
 
 -- no label is taken, and all are free
 pub linked_none : {sets : List ℕ} → Words sets → Linked sets (replicate 64 255) (replicate 64 0) (replicate 64 0) (2 ^ 64 - 1)

@@ -18,7 +18,7 @@ use Rattle.integers.proofs.Words.{bit_zero, bit_or_lem, bit_and_lem, bit_without
 use Rattle.integers.proofs.Places.{by-test, and_true, and_both, or_split, left_true, right_true}
 use Rattle.assignment.specs.Rows.{In, but, count, put}
 use Rattle.assignment.proofs.Counts.{differ, by-same, but_true, true_but, but_other, pigeonhole, put_same, put_other}
-use Rattle.placing.specs.Words.{entry, seen_by, Trail, Searched}
+use Rattle.placing.specs.Words.{entry, seen_by, Trail, Met, Ended}
 
 -- ---- tests
 
@@ -167,12 +167,6 @@ both_bits a b h z =
 pub no_both : (a b l : ℕ) → bit_and a b ≡ 0 → bit a l ≡ true → bit b l ≡ false
 no_both a b l z e = fails (bit b l) (λ f. differ (and_both e f) (sym (bit_and_lem a b l) ∙ ap (λ (x : ℕ). bit x l) z ∙ bit_zero l))
 
--- as an answer says it
-pub searched_by : {reach : List ℕ} {free start before : ℕ} {by words : List ℕ} {found : Bool} {label count seen : ℕ} → Searched reach free start before by words found label count seen
-    → {found' : Bool} {label' count' seen' : ℕ} → (found' ≡ found) × (label' ≡ label) × (count' ≡ count) × (seen' ≡ seen)
-    → Searched reach free start before by words found' label' count' seen'
-searched_by {reach} {free} {start} {before} {by} {words} s (e, f, g, h) = transport (λ j. Searched reach free start before by words (sym e j) (sym f j) (sym g j) (sym h j)) s
-
 module _ {reach : List ℕ} {free start before : ℕ} {by words : List ℕ} (size_by : length by ≡ 64) (size_words : length words ≡ 64) (fit : start < 2 ^ 64)
     (begins : (l : ℕ) → bit start l ≡ true → bit before l ≡ false) where
   pub searching_none : bit_and start free ≡ 0 → before < 2 ^ 64 → Searching reach free start before by words 0 (bit_or before start) (queue start 0)
@@ -188,11 +182,13 @@ module _ {reach : List ℕ} {free start before : ℕ} {by words : List ℕ} (siz
 
 module _ {reach : List ℕ} {free start before : ℕ} {by words : List ℕ} {count seen : ℕ} {wait : ℕ → Bool} (s : Searching reach free start before by words count seen wait) where
   -- no label is left
-  pub searching_ended : ((l : ℕ) → wait l ≡ false) → Searched reach free start before by words false 0 count seen
+  pub searching_ended : ((l : ℕ) → wait l ≡ false) → Ended reach free start before seen
   searching_ended none = record {
+    by = by;
+    words = words;
+    count = count;
     trail = s.trail;
-    yes = λ e. absurd (differ e refl);
-    no = λ _. record { fit = s.fit; all = s.all; held = s.held; exits = λ l k e f. s.gone l k e (none l) f };
+    exhausted = record { fit = s.fit; all = s.all; held = s.held; exits = λ l k e f. s.gone l k e (none l) f };
   }
 
   -- the turn from the label l
@@ -233,13 +229,11 @@ module _ {reach : List ℕ} {free start before : ℕ} {by words : List ℕ} {cou
       seen_now k = seen_more start words count new k (omega (arith, turn_few, s.trail.size_words))
 
       pub searching_met : (bit_and new free ≡ 0 → ⊥)
-          → Searched reach free start before (set by count l) (set words count new) true (count_trailing_zeros 64 (bit_and new free)) (count + 1) seen
+          → Met reach free start before (set by count l) (set words count new) (count + 1) (count_trailing_zeros 64 (bit_and new free))
       searching_met z = record {
         trail = trail;
-        yes = λ _. let k = count_trailing_zeros 64 (bit_and new free) in
-            let (a, b) = both_bits new free new_fits z in
-            (seen_now k ∙ right_true (seen_by start words count k) a, b);
-        no = λ e. absurd (differ refl e);
+        met = let k = count_trailing_zeros 64 (bit_and new free) in seen_now k ∙ right_true (seen_by start words count k) (both_bits new free new_fits z).0;
+        free_label = (both_bits new free new_fits z).1;
       }
 
       pub searching_more : bit_and new free ≡ 0 → {wait' : ℕ → Bool} → ((k : ℕ) → wait' k ≡ (but wait l k || bit new k))
@@ -355,7 +349,7 @@ module _ {reach : List ℕ} {free start before : ℕ} {by words : List ℕ} {cou
   turn_next z d = (searching_more s l waiting fits z (queue-next h some l low more fit apart d), layers_next h some l low more fit apart)
 
   pub turn_last : bit_and more free ≡ 0 → bit_and layer (layer - 1) ≡ 0 → bit_or next more ≡ 0
-      → Searched reach free start before (set by count l) (set words count more) false 0 (count + 1) (bit_or seen more)
+      → Ended reach free start before (bit_or seen more)
   turn_last z d q = let (a, b) = turn_next z d in searching_ended a (queue_empty b q)
 
 -- no label seen is one of those passed over

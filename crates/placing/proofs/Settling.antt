@@ -21,7 +21,6 @@ use Rattle.assignment.proofs.Firsts.{settled_none, settled_more, settled_first}
 use Rattle.placing.specs.Words.{entry, All, Linked, Seated, seen_by, Stays, Ended, Lowered, Lowest}
 use Rattle.placing.proofs.Searching.{fails, seen_later, seen_begin}
 use Rattle.placing.proofs.Slots.{opens_kinds, opens-bit}
-use Rattle.placing.proofs.Linking.{linked_leave}
 use Rattle.placing.proofs.Holding.{Held, linked_held, linked_all}
 use Rattle.placing.proofs.Barring.{Barred, barred_settled, barred_more}
 
@@ -42,10 +41,10 @@ module _ {sets taken holders reach : List ℕ} {free u : ℕ} (k : Linked sets t
   away : entry (set taken u 255) u ≡ 255
   away = get_or-set_same taken u 255 0 (omega (arith, k.size_taken))
 
-  pub trying_none : {closed vacant : ℕ} → closed < 2 ^ 64 → (vacant < 2 ^ 64) × ((x : ℕ) → x < 64 → bit vacant x ≡ (bit free x || eqb x (entry taken u)))
-      → Trying sets taken holders reach closed u vacant closed (bit_xor (bit_or (entry sets u) closed) closed)
-  trying_none {closed} fit (fit-vacant, rest) = record {
-    linked = linked_leave k h fit-vacant rest;
+  pub trying_none : {closed vacant : ℕ} {holders' reach' : List ℕ} → closed < 2 ^ 64 → Linked sets (set taken u 255) holders' reach' vacant
+      → Trying sets taken holders' reach' closed u vacant closed (bit_xor (bit_or (entry sets u) closed) closed)
+  trying_none {closed} fit left = record {
+    linked = left;
     fit_seen = fit;
     fit_rest = without_fits (entry sets u) closed (k.fit_sets u) fit;
     more = λ l e. e;
@@ -54,7 +53,7 @@ module _ {sets taken holders reach : List ℕ} {free u : ℕ} (k : Linked sets t
         (λ x e. let (w, g, f) = v.only x e in (w, g, elsewhere w (λ q. omega arith) ∙ f));
   }
 
-  module _ {closed vacant seen rest : ℕ} (t : Trying sets taken holders reach closed u vacant seen rest) where
+  module _ {holders' reach' : List ℕ} {closed vacant seen rest : ℕ} (t : Trying sets taken holders' reach' closed u vacant seen rest) where
     -- a label of the rest is u's, and was not seen
     pub trying_label : (l : ℕ) → bit rest l ≡ true → (bit (entry sets u) l ≡ true) × (bit seen l ≡ false)
     trying_label l e = let (a, b) = and_true (bit (entry sets u) l) (not (bit seen l)) (sym (t.left l) ∙ e) in (a, by-test (bit seen l) (λ s. absurd (differ b (ap not s))) (λ s. s))
@@ -63,7 +62,7 @@ module _ {sets taken holders reach : List ℕ} {free u : ℕ} (k : Linked sets t
     trying_unplaced = omega (arith, away)
 
     module _ {n : ℕ} {own : List Bool} (v : Lowered n sets own taken closed u) (below : u < n) where
-      held : Held sets own n u (set taken u 255) holders reach vacant
+      held : Held sets own n u (set taken u 255) holders' reach' vacant
       held = linked_held own t.linked v.few (λ w g d b. rw (elsewhere w d) (v.seated.seat w g (rw (elsewhere w d) at b)))
           (λ w g b. by-same w u (λ q. omega arith) (λ q. by-test (ltb w n) (ltb-true w n) (λ z. absurd (omega (arith, v.seated.later w (ltb-false w n z) g, elsewhere w q))))) trying_unplaced
 
@@ -77,7 +76,7 @@ module _ {sets taken holders reach : List ℕ} {free u : ℕ} (k : Linked sets t
           (opens_kinds sets own u (q u) (p.allowed u below))
 
       -- a search from u that ended bars what it saw
-      barred_seen : {start seen' : ℕ} → Ended reach vacant start seen seen' → Barred n sets own u (set taken u 255) seen'
+      barred_seen : {start seen' : ℕ} → Ended reach' vacant start seen seen' → Barred n sets own u (set taken u 255) seen'
       barred_seen e = barred_more held (λ w a b d f. elsewhere w d ∙ v.seated.vacant w a (omega (arith, v.few)) f) (t.barred n own v below) e.trail e.exhausted
           (λ w g b. t.more (entry (set taken u 255) w) (rw (elsewhere w (λ q. omega arith)) (v.shut w g (rw (elsewhere w (λ q. omega arith)) at b))))
 
@@ -112,9 +111,10 @@ module _ {sets taken holders reach : List ℕ} {free u : ℕ} (k : Linked sets t
           same w g = moved w (λ q. omega arith) (λ z. z) (λ x y. differ (t.more (entry taken w) (v.shut w g x)) y.0)
 
     -- the next turn
-    pub trying_more : {start seen' : ℕ} → Ended reach vacant start seen seen' → Trying sets taken holders reach closed u vacant seen' (bit_xor (bit_or rest seen') seen')
-    trying_more {start} {seen'} e = record {
-      linked = t.linked;
+    pub trying_more : {start seen' vacant' : ℕ} {holders'' reach'' : List ℕ} → Ended reach' vacant start seen seen' → Linked sets (set taken u 255) holders'' reach'' vacant'
+        → Trying sets taken holders'' reach'' closed u vacant' seen' (bit_xor (bit_or rest seen') seen')
+    trying_more {start} {seen'} e k' = record {
+      linked = k';
       fit_seen = e.exhausted.fit;
       fit_rest = without_fits rest seen' t.fit_rest e.exhausted.fit;
       more = λ l c. grows l (t.more l c);
@@ -128,7 +128,7 @@ module _ {sets taken holders reach : List ℕ} {free u : ℕ} (k : Linked sets t
         grows l b = e.exhausted.all l ∙ left_true (seen_by start e.words e.count l) b
 
     -- the lowest of the labels left rises: the search saw the one from which it began
-    pub trying_less : {l seen' : ℕ} → l ≡ count_trailing_zeros 64 rest → (rest ≡ 0 → ⊥) → Ended reach vacant (2 ^ l) seen seen' → count_trailing_zeros 64 rest < count_trailing_zeros 64 (bit_xor (bit_or rest seen') seen')
+    pub trying_less : {l seen' : ℕ} → l ≡ count_trailing_zeros 64 rest → (rest ≡ 0 → ⊥) → Ended reach' vacant (2 ^ l) seen seen' → count_trailing_zeros 64 rest < count_trailing_zeros 64 (bit_xor (bit_or rest seen') seen')
     trying_less {l} {seen'} q z e = by-same rest' 0
         (λ y. rw (y, trailing_of_zero 64) low.0)
         (λ y. let (a, b, c) = lowest rest' (without_fits rest seen' t.fit_rest e.exhausted.fit) y in

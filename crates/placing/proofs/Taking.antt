@@ -8,12 +8,14 @@ use Prim.Native.Nat.{ℕ, ◌+◌, ◌-◌, ◌^◌, ◌≤◌, ◌<◌}
 use native.Mathlib.Nat.{not-suc-le-zero}
 use native.Mathlib.Omega.{arith}
 use lib.Bits.{bit_and, bit_xor, xor_lt}
-use lib.Dec.{lit<}
+use lib.Count.{count_trailing_zeros}
+use lib.Dec.{ltb, lit<}
+use borrow.Author.Tests.{ltb-true, ltb-false}
 use lib.ListN.{length, set, length-set}
 use lib.Seq.{get_or-set_same, get_or-set_other}
 use Rattle.integers.specs.Words.{bit}
 use Rattle.integers.proofs.Places.{by-test, and_true, and_both}
-use Rattle.integers.proofs.Words.{some_bit, bit_and_lem, bit_dropped, bit_kept, bit_full, power_fits}
+use Rattle.integers.proofs.Words.{some_bit, lowest, bit_and_lem, bit_dropped, bit_kept, bit_full, power_fits}
 use Rattle.assignment.specs.Rows.{But, put, Node}
 use Rattle.assignment.specs.First.{First, None, Settled, Agree}
 use Rattle.assignment.proofs.Counts.{differ, by-same, put_same, put_other}
@@ -31,6 +33,12 @@ set-put t u k h = fun_ext (λ w. by-same w u
 -- the lowest label of a word
 abbrev pub Least : ℕ → ℕ → Type 0
 Least w l = (l < 64) × (bit w l ≡ true) × ((x : ℕ) → x < l → bit w x ≡ false)
+
+pub least_of : (w l : ℕ) → w < 2 ^ 64 → (w ≡ 0 → ⊥) → l ≡ count_trailing_zeros 64 w → Least w l
+least_of w l h z e = subst (Least w) (sym e) (lowest w h z)
+
+pub least_below : (w l : ℕ) → Least w l → (x : ℕ) → bit w x ≡ true → l ≤ x
+least_below w l h x e = by-test (ltb x l) (λ b. absurd (differ e (h.2 x (ltb-true x l b)))) (λ b. ltb-false x l b)
 
 -- The nodes below u are placed, each as low as it can be; a label is not free exactly if one of them takes it.
 pub record Taking (n : ℕ) (sets : List ℕ) (own : List Bool) (taken : List ℕ) (free u : ℕ) : Type 0 where

@@ -78,10 +78,19 @@ pub record Exhausted (reach : List ℕ) (free start before : ℕ) (words : List 
   pub held : (l : ℕ) → seen_by start words count l ≡ true → bit free l ≡ false
   pub exits : (l k : ℕ) → seen_by start words count l ≡ true → bit (entry reach l) k ≡ true → bit seen k ≡ true
 
-pub record Searched (reach : List ℕ) (free start before : ℕ) (by words : List ℕ) (found : Bool) (label count seen : ℕ) : Type 0 where
+-- a search that met a free label
+pub record Met (reach : List ℕ) (free start before : ℕ) (by words : List ℕ) (count label : ℕ) : Type 0 where
   pub trail : Trail reach free start before by words count
-  pub yes : found ≡ true → (seen_by start words count label ≡ true) × (bit free label ≡ true)
-  pub no : found ≡ false → Exhausted reach free start before words count seen
+  pub met : seen_by start words count label ≡ true
+  pub free_label : bit free label ≡ true
+
+-- a search that ended with nothing
+pub record Ended (reach : List ℕ) (free start before seen : ℕ) : Type 0 where
+  pub by : List ℕ
+  pub words : List ℕ
+  pub count : ℕ
+  pub trail : Trail reach free start before by words count
+  pub exhausted : Exhausted reach free start before words count seen
 
 -- ---- what shows that not all nodes can be placed
 
@@ -99,6 +108,10 @@ caught root seen taken u = eqb u root || (ltb u root && bit seen (entry taken u)
 
 -- ---- nodes at labels, in tables
 
+-- a word and one number more, if that is below 64
+abbrev pub Joined : ℕ → ℕ → ℕ → Type 0
+Joined word label word' = (word' < 2 ^ 64) × ((x : ℕ) → x < 64 → bit word' x ≡ (bit word x || eqb x label))
+
 -- A node takes a label below 64 of its word, or none. A label that is not free has a holder, and `reach` has the holder's word.
 pub record Linked (sets taken holders reach : List ℕ) (free : ℕ) : Type 0 where
   pub size_taken : length taken ≡ 64
@@ -115,49 +128,22 @@ pub record Linked (sets taken holders reach : List ℕ) (free : ℕ) : Type 0 wh
 abbrev pub Stays : ℕ → ℕ → List ℕ → List ℕ → Type 0
 Stays before root taken taken' = (w : ℕ) → (w ≡ root → ⊥) → (entry taken' w ≡ entry taken w) ⊎ ((entry taken w < 64) × (bit before (entry taken w) ≡ false) × (entry taken' w < 64))
 
--- a search that ended with nothing
-pub record Ended (reach : List ℕ) (free start before seen : ℕ) : Type 0 where
-  pub by : List ℕ
-  pub words : List ℕ
-  pub count : ℕ
-  pub trail : Trail reach free start before by words count
-  pub exhausted : Exhausted reach free start before words count seen
-
 -- the root, which takes none, is to take a label of its word that is in `start` and not in `before`
-pub record Asked (sets taken holders reach : List ℕ) (free start before root : ℕ) : Type 0 where
-  pub linked : Linked sets taken holders reach free
+pub record Asked (sets taken : List ℕ) (start before root : ℕ) : Type 0 where
   pub node : root < 64
   pub unplaced : 64 ≤ entry taken root
   pub labels : (l : ℕ) → bit start l ≡ true → (bit (entry sets root) l ≡ true) × (bit before l ≡ false)
 
--- a search met a free label
-pub record Meeting (sets taken holders reach : List ℕ) (free start before : ℕ) (by words : List ℕ) (count label root : ℕ) : Type 0 where
-  pub asked : Asked sets taken holders reach free start before root
-  pub trail : Trail reach free start before by words count
-  pub met : seen_by start words count label ≡ true
-  pub free_label : bit free label ≡ true
-
--- what moves along the trail leave
-pub record Shifted (sets taken : List ℕ) (free start before label root : ℕ) (taken' holders' reach' : List ℕ) : Type 0 where
-  pub linked : Linked sets taken' holders' reach' (bit_xor free (2 ^ label))
+-- the root takes a label of `start`, and others shift
+pub record Rooted (taken : List ℕ) (start before root : ℕ) (taken' : List ℕ) : Type 0 where
   pub rooted : bit start (entry taken' root) ≡ true
   pub stays : Stays before root taken taken'
-
--- the root takes a label of `start` and others shift, or nothing changes
-pub record Chained (sets taken holders reach : List ℕ) (free start before root : ℕ) (taken' holders' reach' : List ℕ) (found : Bool) (free' seen : ℕ) : Type 0 where
-  pub yes : found ≡ true → Linked sets taken' holders' reach' free' × (bit start (entry taken' root) ≡ true) × Stays before root taken taken'
-  pub no : found ≡ false → (taken' ≡ taken) × (holders' ≡ holders) × (reach' ≡ reach) × Ended reach free start before seen
 
 -- of the nodes below m one that takes no label below 64 has 255 and takes that; those from m on take none; those from `since` on that have 255 take it
 pub record Seated (own : List Bool) (since m : ℕ) (taken : List ℕ) : Type 0 where
   pub seat : (u : ℕ) → u < m → 64 ≤ entry taken u → (entry taken u ≡ 255) × (flag own u ≡ true)
   pub later : (u : ℕ) → m ≤ u → u < 64 → entry taken u ≡ 255
   pub vacant : (u : ℕ) → since ≤ u → u < 64 → flag own u ≡ true → entry taken u ≡ 255
-
--- all nodes below n have a place, or some cannot be placed
-pub record Stopped (n : ℕ) (sets : List ℕ) (own : List Bool) (taken holders reach : List ℕ) (placed : Bool) (root free seen : ℕ) : Type 0 where
-  pub yes : placed ≡ true → Linked sets taken holders reach free × Seated own 0 n taken
-  pub no : placed ≡ false → Blocked (rows_of n sets own) (caught root seen taken)
 
 -- ---- the smallest placing
 
@@ -176,8 +162,3 @@ pub record Lowest (n : ℕ) (sets : List ℕ) (own : List Bool) (taken : List �
   pub seated : Seated own (u + 1) n taken'
   pub settled : Settled (All n sets own) (entry taken') (u + 1)
   pub same : (w : ℕ) → w < u → entry taken' w ≡ entry taken w
-
--- the smallest placing of all nodes, or nodes that cannot all be placed
-pub record Answer (n : ℕ) (sets : List ℕ) (own : List Bool) (placed : Bool) (taken : List ℕ) (root seen : ℕ) : Type 0 where
-  pub yes : placed ≡ true → First (All n sets own) n (entry taken)
-  pub no : placed ≡ false → Blocked (rows_of n sets own) (caught root seen taken)

@@ -1,57 +1,38 @@
 // All nodes placed one by one, or nodes that cannot all be.
-ghost use Rattle.std.specs.Prelude.{◌≡◌, ℕ, ◌-◌, ◌^◌, ◌≤◌, ◌<◌};
-ghost use Rattle.placing.specs.Words.{entry, Linked, Stopped};
+ghost use Rattle.std.specs.Prelude.{◌≡◌, ℕ, ◌<◌, MatchResult};
+ghost use Rattle.placing.specs.Words.{entry, Seated, Blocked, rows_of, caught};
 
-use crate::moves::chain;
+use crate::seats::Seats;
 
-// Whether all nodes were placed, and then which labels are free; else the node for which there is no label, and the labels seen.
+// A node for which there is no label, the labels that the search for one saw, and the labels that the nodes take.
 #[derive(Clone, Copy)]
-pub(crate) struct Stop {
-    pub placed: bool,
+pub(crate) struct Unplaced {
     pub root: usize,
-    pub free: u64,
     pub seen: u64,
+    pub taken: [u8; 64],
 }
 
-// Places the nodes in order: those that have 255 there, the others by chains.
-pub(crate) fn place_all(
-    n: usize,
-    sets: &[u64; 64],
-    own: &[bool; 64],
-    taken: &mut [u8; 64],
-    holders: &mut [u8; 64],
-    reach: &mut [u64; 64],
-) -> Stop
-    requires { (n ≤ 64) × Linked sets.now taken.old holders.old reach.old (2 ^ 64 - 1) × ((u : ℕ) → u < 64 → entry taken.old u ≡ 255) }
-    ensures { Stopped n sets.now own.now taken.new holders.new reach.new result.placed result.root result.free result.seen }
-{
-    let mut free = 18446744073709551615;
-    let mut u = 0;
-    while u < n {
-        let next = u + 1;
-        let vanishes = own[u];
-        if vanishes {
-            u = next;
-        } else {
-            let start = sets[u];
-            let r = chain(sets, taken, holders, reach, free, start, 0, u);
-            if r.found {
-                free = r.free;
-                u = next;
-            } else {
-                return Stop {
-                    placed: false,
+impl<'a> Seats<'a> {
+    // Places the nodes in order: those that have 255 there, the others by chains.
+    pub(crate) fn place_all(&mut self) -> Result<(), Unplaced>
+        requires { (u : ℕ) → u < 64 → entry self.old.taken u ≡ 255 }
+        ensures same { self.new.nodes.now ≡ self.old.nodes.now }
+        ensures answer { MatchResult result (λ _. Seated self.old.nodes.now.own 0 self.old.nodes.now.count self.new.taken)
+            (λ no. Blocked (rows_of self.old.nodes.now.count self.old.nodes.now.sets self.old.nodes.now.own) (caught no.root no.seen no.taken)) }
+    {
+        for u in 0..self.nodes.count {
+            let vanishes = self.nodes.own[u];
+            if vanishes {
+                continue;
+            }
+            if let Err(seen) = self.chain(self.nodes.sets[u], 0, u) {
+                return Err(Unplaced {
                     root: u,
-                    free,
-                    seen: r.seen,
-                };
+                    seen,
+                    taken: self.taken,
+                });
             }
         }
-    }
-    Stop {
-        placed: true,
-        root: n,
-        free,
-        seen: 0,
+        Ok(())
     }
 }

@@ -1,34 +1,28 @@
 // Each node in turn at its lowest free label.
-ghost use Rattle.std.specs.Prelude.{◌≡◌, true, ◌≤◌, length};
-ghost use Rattle.integers.specs.Words.{Words};
+ghost use Rattle.std.specs.Prelude.{◌≡◌, IfSome};
 ghost use Rattle.assignment.specs.First.{First};
 ghost use Rattle.placing.specs.Words.{entry, All};
 
+use crate::tables::Nodes;
 use crate::words::{bit_of, lowest};
 
 // Lets the nodes take, in order, each its lowest label that those below it leave free, or 255. Where each finds one, that is the smallest placing.
-pub(crate) fn take_first(n: usize, sets: &[u64; 64], own: &[bool; 64], taken: &mut [u8; 64]) -> bool
-    requires { (n ≤ 64) × Words sets.now × (length taken.old ≡ 64) }
-    ensures { result ≡ true → First (All n sets.now own.now) n (entry taken.new) }
+pub(crate) fn take_first(nodes: &Nodes) -> Option<[u8; 64]>
+    ensures { IfSome result (λ taken. First (All nodes.now.count nodes.now.sets nodes.now.own) nodes.now.count (entry taken)) }
 {
-    let mut free = 18446744073709551615;
-    let mut u = 0;
-    while u < n {
-        let next = u + 1;
-        let open = sets[u] & free;
+    let mut taken = [0; 64];
+    let mut free = u64::MAX;
+    for u in 0..nodes.count {
+        let open = nodes.sets[u] & free;
         if open != 0 {
             let l = lowest(open);
             taken[u] = l as u8;
-            free = free ^ bit_of(l);
-            u = next;
+            free ^= bit_of(l);
+        } else if nodes.own[u] {
+            taken[u] = 255;
         } else {
-            if own[u] {
-                taken[u] = 255;
-                u = next;
-            } else {
-                return false;
-            }
+            return None;
         }
     }
-    true
+    Some(taken)
 }

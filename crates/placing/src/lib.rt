@@ -7,6 +7,7 @@ mod greedy;
 mod lowering;
 mod moves;
 mod search;
+mod seats;
 mod smallest;
 mod tables;
 mod words;

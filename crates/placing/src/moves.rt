@@ -1,102 +1,51 @@
 // Nodes move along a trail of labels, so that one more node is placed.
-ghost use Rattle.std.specs.Prelude.{◌≡◌, ℕ, ◌<◌, set};
-ghost use Rattle.placing.specs.Words.{entry, Asked, Meeting, Shifted, Chained};
+ghost use Rattle.std.specs.Prelude.{◌≡◌, ℕ, IfOk, IfErr};
+ghost use Rattle.integers.specs.Words.{bit};
+ghost use Rattle.placing.specs.Words.{entry, Asked, Met, Rooted, Ended};
 
-use crate::search::{Sight, search};
+use crate::search::{Meeting, Steps, search};
+use crate::seats::Seats;
 use crate::words::{bit_of, has, lowest};
 
-// Node `u` takes the label `l`.
-fn give(
-    sets: &[u64; 64],
-    taken: &mut [u8; 64],
-    holders: &mut [u8; 64],
-    reach: &mut [u64; 64],
-    u: usize,
-    l: usize,
-)
-    requires { (u < 64) × (l < 64) }
-    ensures { (taken.new ≡ set taken.old u l) × (holders.new ≡ set holders.old l u) × (reach.new ≡ set reach.old l (entry sets.now u)) }
-{
-    taken[u] = l as u8;
-    holders[l] = u as u8;
-    reach[l] = sets[u];
-}
-
-// The label that a search met is free: the node by way of whose label it was found takes it, the label left goes to the one before, and so on to the root.
-fn shift(
-    sets: &[u64; 64],
-    taken: &mut [u8; 64],
-    holders: &mut [u8; 64],
-    reach: &mut [u64; 64],
-    by: &[u8; 64],
-    words: &[u64; 64],
-    sight: Sight,
-    root: usize,
-)
-    requires { (free : ℕ) × (start : ℕ) × (before : ℕ) × Meeting sets.now taken.old holders.old reach.old free start before by.now words.now sight.count sight.label root }
-    ensures { (free start before : ℕ) → Meeting sets.now taken.old holders.old reach.old free start before by.now words.now sight.count sight.label root
-        → Shifted sets.now taken.old free start before sight.label root taken.new holders.new reach.new }
-{
-    let mut l = sight.label;
-    let mut i = sight.count;
-    while 0 < i {
-        i -= 1;
-        if has(words[i], l) {
-            let from = by[i] as usize;
-            let h = holders[from] as usize;
-            give(sets, taken, holders, reach, h, l);
-            l = from;
+impl<'a> Seats<'a> {
+    // The label that a search met is free: the node by way of whose label it was found takes it, the label left goes to the one before, and so on to the root.
+    fn shift(&mut self, steps: &Steps, met: Meeting, root: usize)
+        requires { (start : ℕ) × (before : ℕ) × Asked self.old.nodes.now.sets self.old.taken start before root × Met self.old.reach self.old.free start before steps.now.by steps.now.words met.count met.label }
+        ensures same { self.new.nodes.now ≡ self.old.nodes.now }
+        ensures placed { (start before : ℕ) → Asked self.old.nodes.now.sets self.old.taken start before root
+            → Met self.old.reach self.old.free start before steps.now.by steps.now.words met.count met.label → Rooted self.old.taken start before root self.new.taken }
+    {
+        let mut l = met.label;
+        for i in (0..met.count).rev() {
+            if has(steps.words[i], l) {
+                let from = usize::from(steps.by[i]);
+                let holder = usize::from(self.holders[from]);
+                self.leave(holder);
+                self.give(holder, l);
+                l = from;
+            }
         }
+        self.give(root, l);
     }
-    give(sets, taken, holders, reach, root, l);
-}
 
-// Whether the root was placed, and then which labels are free; else the labels seen.
-#[derive(Clone, Copy)]
-pub(crate) struct Link {
-    pub found: bool,
-    pub free: u64,
-    pub seen: u64,
-}
-
-// Places the root at a label of `start`, if others can shift so that it is free. No label of `before` is touched.
-pub(crate) fn chain(
-    sets: &[u64; 64],
-    taken: &mut [u8; 64],
-    holders: &mut [u8; 64],
-    reach: &mut [u64; 64],
-    free: u64,
-    start: u64,
-    before: u64,
-    root: usize,
-) -> Link
-    requires { Asked sets.now taken.old holders.old reach.old free start before root }
-    ensures { Chained sets.now taken.old holders.old reach.old free start before root taken.new holders.new reach.new result.found result.free result.seen }
-{
-    let met = start & free;
-    if met != 0 {
-        let l = lowest(met);
-        give(sets, taken, holders, reach, root, l);
-        return Link {
-            found: true,
-            free: free ^ bit_of(l),
-            seen: before,
+    // Places the root at a label of `start`, if others can shift so that it is free; else no node moves, and the answer is the labels seen. No label of `before` is touched.
+    pub(crate) fn chain(&mut self, start: u64, before: u64, root: usize) -> Result<(), u64>
+        requires { Asked self.old.nodes.now.sets self.old.taken start before root }
+        ensures same { self.new.nodes.now ≡ self.old.nodes.now }
+        ensures placed { IfOk result (λ _. Rooted self.old.taken start before root self.new.taken) }
+        ensures barred { IfErr result (λ seen. (self.new.taken ≡ self.old.taken) × Ended self.old.reach self.old.free start before seen) }
+    {
+        let met = start & self.free;
+        if met != 0 {
+            self.give(root, lowest(met));
+            return Ok(());
+        }
+        let mut steps = Steps {
+            by: [0; 64],
+            words: [0; 64],
         };
-    }
-    let mut by = [0u8; 64];
-    let mut words = [0u64; 64];
-    let r = search(reach, free, start, before, &mut by, &mut words);
-    if r.found {
-        shift(sets, taken, holders, reach, &by, &words, r, root);
-        return Link {
-            found: true,
-            free: free ^ bit_of(r.label),
-            seen: r.seen,
-        };
-    }
-    Link {
-        found: false,
-        free,
-        seen: r.seen,
+        let met = search(&self.reach, self.free, start, before, &mut steps)?;
+        self.shift(&steps, met, root);
+        Ok(())
     }
 }

@@ -1,58 +1,36 @@
 // The search for a free label, layer by layer.
-ghost use Rattle.std.specs.Prelude.{◌≡◌, true, false, ℕ, length};
+ghost use Rattle.std.specs.Prelude.{◌≡◌, true, false, ℕ, length, MatchResult};
 ghost use Rattle.std.specs.Int.Bits.{bit_and};
-ghost use Rattle.std.specs.Int.Count.{count_trailing_zeros};
 ghost use Rattle.integers.specs.Words.{bit, Words};
-ghost use Rattle.placing.specs.Words.{Searched};
+ghost use Rattle.placing.specs.Words.{Met, Ended};
 
 use crate::words::lowest;
 
-// A search among labels: where it ended, and after how many steps.
+// The steps of a search: the label from which each went, and the word of those that it found.
+// Kept: two arrays and no array of structs, as the laws of a trail are of a table of labels and one of words.
+#[derive(Drop)]
+pub(crate) struct Steps {
+    pub by: [u8; 64],
+    pub words: [u64; 64],
+}
+
+// The free label that a search met, and after how many steps.
 #[derive(Clone, Copy)]
-pub(crate) struct Sight {
-    pub found: bool,
+pub(crate) struct Meeting {
     pub label: usize,
     pub count: usize,
-    pub seen: u64,
 }
 
-// A free label is met: the least label of `met`.
-fn met_at(met: u64, count: usize, seen: u64) -> Sight
-    requires { met ≡ 0 → ⊥ }
-    ensures { (result.found ≡ true) × (result.label ≡ count_trailing_zeros 64 met) × (result.count ≡ count) × (result.seen ≡ seen) }
-{
-    let label = lowest(met);
-    Sight {
-        found: true,
-        label,
-        count,
-        seen,
-    }
-}
-
-// None is met.
-fn none_at(count: usize, seen: u64) -> Sight
-    ensures { (result.found ≡ false) × (result.label ≡ 0) × (result.count ≡ count) × (result.seen ≡ seen) }
-{
-    Sight {
-        found: false,
-        label: 0,
-        count,
-        seen,
-    }
-}
-
-// Goes from the labels of `start`, none of which is free, layer by layer to one that is. Labels of `before` are passed over.
+// Goes from the labels of `start`, none of which is free, layer by layer to one that is. Labels of `before` are passed over. Where none is met, the labels seen.
 pub(crate) fn search(
     reach: &[u64; 64],
     free: u64,
     start: u64,
     before: u64,
-    by: &mut [u8; 64],
-    words: &mut [u64; 64],
-) -> Sight
-    requires { Words reach.now × (length by.old ≡ 64) × (length words.old ≡ 64) × (bit_and start free ≡ 0) × ((l : ℕ) → bit start l ≡ true → bit before l ≡ false) }
-    ensures { Searched reach.now free start before by.new words.new result.found result.label result.count result.seen }
+    steps: &mut Steps,
+) -> Result<Meeting, u64>
+    requires { Words reach.now × (length steps.old.by ≡ 64) × (length steps.old.words ≡ 64) × (bit_and start free ≡ 0) × ((l : ℕ) → bit start l ≡ true → bit before l ≡ false) }
+    ensures { MatchResult result (λ met. Met reach.now free start before steps.new.by steps.new.words met.count met.label) (λ seen. Ended reach.now free start before seen) }
 {
     let mut seen = before | start;
     let mut layer = start;
@@ -61,19 +39,20 @@ pub(crate) fn search(
     while layer != 0 {
         let l = lowest(layer);
         let new = (reach[l] | seen) ^ seen;
-        by[count] = l as u8;
-        words[count] = new;
+        steps.by[count] = l as u8;
+        steps.words[count] = new;
         count += 1;
         let met = new & free;
         if met != 0 {
-            return met_at(met, count, seen);
+            let label = lowest(met);
+            return Ok(Meeting { label, count });
         }
-        seen = seen | new;
+        seen |= new;
         let all = next | new;
         let left = layer & (layer - 1);
         if left == 0 {
             if all == 0 {
-                return none_at(count, seen);
+                return Err(seen);
             }
             layer = all;
             next = 0;
@@ -82,5 +61,5 @@ pub(crate) fn search(
             next = all;
         }
     }
-    none_at(count, seen)
+    Err(seen)
 }

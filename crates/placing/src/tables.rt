@@ -7,7 +7,17 @@ ghost use Rattle.placing.specs.Words.{entry, Laid};
 ghost use Rattle.placing.specs.Labels.{Labels, Worded};
 
 use crate::words::bit_of;
-use index::wide;
+
+// The nodes below `count`: the word of each one's labels below 64, and whether it has 255.
+// Kept: two arrays and no array of structs, since the laws are of a table of words (`Words`) and one of flags.
+#[derive(Drop)]
+pub(crate) struct Nodes {
+    pub count: usize,
+    pub sets: [u64; 64],
+    pub own: [bool; 64],
+    ghost few: { count ≤ 64 },
+    ghost fit: { Words sets },
+}
 
 // The labels of a node below 64 as a word, and whether it has 255.
 #[derive(Clone, Copy)]
@@ -16,16 +26,14 @@ struct Row {
     own: bool,
 }
 
-// The word of the first `count` labels, which are below 64.
-fn word_of(labels: &[u8], count: usize) -> u64
-    requires { (count ≤ length labels.now) × ((k : ℕ) → k < count → entry labels.now k < 64) }
-    ensures { result ≡ word_of (entry labels.now) count }
+// The word of labels below 64.
+fn word_of(labels: &[u8]) -> u64
+    requires { (k : ℕ) → k < length labels.now → entry labels.now k < 64 }
+    ensures { result ≡ word_of (entry labels.now) (length labels.now) }
 {
     let mut word = 0;
-    let mut i = 0;
-    while i < count {
-        word = word | bit_of(labels[i] as usize);
-        i += 1;
+    for label in labels {
+        word |= bit_of(usize::from(*label));
     }
     word
 }
@@ -36,29 +44,27 @@ fn row_of(labels: &[u8]) -> Row
     ensures { Worded (entry labels.now) (length labels.now) result.word result.own }
 {
     let own = labels[labels.len() - 1] == 255;
-    let word = word_of(labels, labels.len() - own as usize);
+    let word = word_of(&labels[..labels.len() - usize::from(own)]);
     Row { word, own }
 }
 
 // All nodes. Node u's labels begin at the place `starts[u]`.
-pub(crate) fn lay_words(
-    sheet: &[u8],
-    n: usize,
-    starts: &[usize; 64],
-    sets: &mut [u64; 64],
-    own: &mut [bool; 64],
-)
-    requires sheet_value { (refusal_of sheet.now ≡ 0) × (n ≡ (instance_of sheet.now).node_count) × ((u : ℕ) → u < n → entry starts.now u ≡ first (instance_of sheet.now) u) }
-    requires sets_len { (length sets.old ≡ 64) × (length own.old ≡ 64) × Words sets.old }
-    ensures { Laid (instance_of sheet.now) n sets.new own.new }
+pub(crate) fn lay_words(sheet: &[u8], n: usize, starts: &[usize; 64]) -> Nodes
+    requires { (refusal_of sheet.now ≡ 0) × (n ≡ (instance_of sheet.now).node_count) × ((u : ℕ) → u < n → entry starts.now u ≡ first (instance_of sheet.now) u) }
+    ensures { (result.count ≡ n) × Laid (instance_of sheet.now) n result.sets result.own }
 {
-    let mut u = 0;
-    while u < n {
+    let mut sets = [0; 64];
+    let mut own = [false; 64];
+    for u in 0..n {
         let from = n + starts[u];
-        let past = from + wide(sheet[u]);
+        let past = from + usize::from(sheet[u]);
         let row = row_of(&sheet[from..past]);
         sets[u] = row.word;
         own[u] = row.own;
-        u += 1;
+    }
+    Nodes {
+        count: n,
+        sets,
+        own,
     }
 }

@@ -1,7 +1,8 @@
-// Sets of labels as the bits of a word.
+// Sets of labels as the bits of a word. Kept: a word is a plain u64, since the tables of words and every law of them (`Words`, `entry`, `bit`) are of numbers; a struct around it would be opened at each place.
 ghost use Rattle.std.specs.Prelude.{◌≡◌, ◌^◌, ◌<◌};
 ghost use Rattle.std.specs.Int.Count.{count_trailing_zeros};
 ghost use Rattle.integers.specs.Words.{bit};
+ghost use Rattle.placing.specs.Words.{Joined};
 
 // The word of one label.
 pub(crate) fn bit_of(l: usize) -> u64
@@ -11,12 +12,11 @@ pub(crate) fn bit_of(l: usize) -> u64
     1u64 << l
 }
 
-// Whether the word has the label.
+// Whether the word has the label: none has one from 64 on.
 pub(crate) fn has(word: u64, l: usize) -> bool
-    requires { l < 64 }
     ensures { result ≡ bit word l }
 {
-    (word >> l) & 1 == 1
+    l < 64 && (word >> l) & 1 == 1
 }
 
 // The lowest label of a word that has one.
@@ -25,4 +25,15 @@ pub(crate) fn lowest(word: u64) -> usize
     ensures { result ≡ count_trailing_zeros 64 word }
 {
     u64::trailing_zeros(word) as usize
+}
+
+// A word with a label more; none for 255.
+pub(crate) fn with_label(word: u64, label: u8) -> u64
+    ensures { Joined word label result }
+{
+    if label < 64 {
+        word | bit_of(usize::from(label))
+    } else {
+        word
+    }
 }

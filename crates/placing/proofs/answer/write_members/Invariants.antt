@@ -12,7 +12,4 @@ abbrev pub members : ℕ → ℕ → List ℕ → ℕ → ℕ
 members root seen taken u = cond (caught root seen taken u) 1 0
 
 abbrev pub invariant-loop-node : goal.invariant-loop-node
-invariant-loop-node l = Filling (members l.root l.seen l.taken) l.initial.out l.out l.node
-
-abbrev pub decreases-loop-node : goal.decreases-loop-node
-decreases-loop-node l = length l.initial.out - l.node
+invariant-loop-node l = Filling (members l.unplaced.root l.unplaced.seen l.unplaced.taken) l.initial.out l.out l.node

@@ -11,7 +11,4 @@ abbrev pub ranks : List ℕ → List ℕ → ℕ → ℕ
 ranks sets taken u = rank (entry sets u) (entry taken u)
 
 abbrev pub invariant-loop-u : goal.invariant-loop-u
-invariant-loop-u l = Filling (ranks l.sets l.taken) l.initial.out l.out l.u
-
-abbrev pub decreases-loop-u : goal.decreases-loop-u
-decreases-loop-u l = length l.initial.out - l.u
+invariant-loop-u l = Filling (ranks l.nodes.sets l.taken) l.initial.out l.out l.u

@@ -1,12 +1,14 @@
 -- `search` meets its contract: each turn is one of `Searching`.
-use Prim.Native.Nat.{ℕ, ◌<◌}
-use mathlib.Core.Path.{◌≡◌}
+use Prim.Native.Nat.{ℕ, ◌+◌, ◌<◌}
+use mathlib.Core.Path.{◌≡◌, sym, subst}
 use mathlib.Core.Bool.{true}
 use native.Mathlib.Omega.{arith}
 use lib.Count.{count_trailing_zeros}
+use lib.ListN.{set}
 use Rattle.integers.specs.Words.{bit, Words}
 use Rattle.integers.proofs.Places.{left_true}
-use Rattle.placing.proofs.Searching.{queue, layers_none, in_layer, queue_empty, searched_by, searching_none, searching_met, searching_ended, turn_small, turn_few, turn_same, turn_next, turn_last}
+use Rattle.placing.specs.Words.{Met}
+use Rattle.placing.proofs.Searching.{queue, newly, layers_none, in_layer, queue_empty, searching_none, searching_met, searching_ended, turn_small, turn_few, turn_same, turn_next, turn_last}
 use Rattle.placing.proofs.search.search.Goals as goal
 use Rattle.placing.proofs.search.search.Goals.{After-lowest-l, At-loop-layer}
 
@@ -42,11 +44,14 @@ loop-layer-init c =
 
 pub returns-then-met-ne0 : goal.returns-then-met-ne0
 returns-then-met-ne0 c =
-    let t = (goal.at.returns-then-met-ne0 c).After-lowest-l in searched_by (searching_met (head t).loop-layer.invariant.0 (l t) (left t) (fits t) c.if-met-ne0.true) c.met_at.ensures
+    let t = (goal.at.returns-then-met-ne0 c).After-lowest-l in
+    let h = (head t).loop-layer in
+    subst (Met (head t).args.reach.now (head t).args.free (head t).args.start (head t).args.before (set h.steps.by h.count (l t)) (set h.steps.words h.count (newly (head t).args.reach.now h.seen (l t))) (h.count + 1))
+    (sym c.lowest-label.ensures) (searching_met h.invariant.0 (l t) (left t) (fits t) c.if-met-ne0.true)
 
 pub returns-then-all-eq0 : goal.returns-then-all-eq0
 returns-then-all-eq0 c =
-    let t = (goal.at.returns-then-all-eq0 c).After-lowest-l in searched_by (turn_last (head t).loop-layer.invariant.0 (head t).loop-layer.invariant.1 (fits t) (some t) (l t) (low t) c.if-met-ne0.false c.if-left-eq0.true c.if-all-eq0.true) c.none_at.ensures
+    let t = (goal.at.returns-then-all-eq0 c).After-lowest-l in turn_last (head t).loop-layer.invariant.0 (head t).loop-layer.invariant.1 (fits t) (some t) (l t) (low t) c.if-met-ne0.false c.if-left-eq0.true c.if-all-eq0.true
 
 pub loop-layer-preserved-then-left-eq0 : goal.loop-layer-preserved-then-left-eq0
 loop-layer-preserved-then-left-eq0 c =
@@ -57,8 +62,7 @@ loop-layer-preserved c =
     let t = (goal.at.loop-layer-preserved c).After-lowest-l in turn_same (head t).loop-layer.invariant.0 (head t).loop-layer.invariant.1 (fits t) (some t) (l t) (low t) c.if-met-ne0.false c.if-left-eq0.false
 
 pub returns : goal.returns
-returns c =
-    let h = c.loop-layer.invariant in searched_by (searching_ended h.0 (queue_empty h.1 c.loop-layer-test.false)) c.none_at-2.ensures
+returns c = let h = c.loop-layer.invariant in searching_ended h.0 (queue_empty h.1 c.loop-layer-test.false)
 
 pub lowest-l-requires : goal.lowest-l-requires
 lowest-l-requires c = c.loop-layer-test.true
@@ -69,23 +73,20 @@ offset_bounds-reach-l c = omega (arith, small c)
 pub bounds-reach-l : goal.bounds-reach-l
 bounds-reach-l c = small (goal.at.bounds-reach-l c).After-lowest-l
 
-pub overflow_cast-by : goal.overflow_cast-by
-overflow_cast-by c = omega (arith, small (goal.at.overflow_cast-by c).After-lowest-l)
+pub overflow_cast-steps : goal.overflow_cast-steps
+overflow_cast-steps c = omega (arith, small (goal.at.overflow_cast-steps c).After-lowest-l)
 
-pub bounds-by-count : goal.bounds-by-count
-bounds-by-count c = few (goal.at.bounds-by-count c).After-lowest-l
+pub bounds-steps-count : goal.bounds-steps-count
+bounds-steps-count c = few (goal.at.bounds-steps-count c).After-lowest-l
 
-pub offset_bounds-words-count : goal.offset_bounds-words-count
-offset_bounds-words-count c = omega (arith, few (goal.at.offset_bounds-words-count c).After-lowest-l)
+pub offset_bounds-steps-count : goal.offset_bounds-steps-count
+offset_bounds-steps-count c = omega (arith, few (goal.at.offset_bounds-steps-count c).After-lowest-l)
 
-pub bounds-words-count : goal.bounds-words-count
-bounds-words-count c = few (goal.at.bounds-words-count c).After-lowest-l
+pub bounds-steps-count-in-loop-layer : goal.bounds-steps-count-in-loop-layer
+bounds-steps-count-in-loop-layer c = few (goal.at.bounds-steps-count-in-loop-layer c).After-lowest-l
 
 pub overflow_add-count : goal.overflow_add-count
 overflow_add-count c = omega (arith, few (goal.at.overflow_add-count c).After-lowest-l)
-
-pub met_at-requires : goal.met_at-requires
-met_at-requires c = c.if-met-ne0.true
 
 pub overflow_sub-left : goal.overflow_sub-left
 overflow_sub-left c = omega (arith, some (goal.at.overflow_sub-left c).After-lowest-l)

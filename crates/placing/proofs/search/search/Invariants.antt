@@ -4,7 +4,7 @@ use Rattle.placing.proofs.Searching.{Searching, Layers, queue}
 use Rattle.placing.proofs.search.search.Given as goal
 
 abbrev pub invariant-loop-layer : goal.invariant-loop-layer
-invariant-loop-layer l = Searching l.reach l.free l.start l.before l.by l.words l.count l.seen (queue l.layer l.next) × Layers l.layer l.next
+invariant-loop-layer l = Searching l.reach l.free l.start l.before l.steps.by l.steps.words l.count l.seen (queue l.layer l.next) × Layers l.layer l.next
 
 abbrev pub decreases-loop-layer : goal.decreases-loop-layer
 decreases-loop-layer l = 64 - l.count

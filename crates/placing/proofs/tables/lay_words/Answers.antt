@@ -1,7 +1,7 @@
 -- `lay_words` meets its contract: the nodes so far are laid out.
 -- Assumes nothing.
 use Prim.Native.Nat.{ℕ, ◌+◌, ◌-◌, ◌≤◌, ◌<◌}
-use mathlib.Core.Path.{◌≡◌, sym, ap₂, subst}
+use mathlib.Core.Path.{◌≡◌, refl, sym, ap₂, subst}
 use mathlib.Core.List.{List}
 use native.Mathlib.Omega.{arith}
 use lib.ListN.{length, take, drop}
@@ -11,9 +11,10 @@ use Rattle.instance.specs.Readable.{Readable}
 use Rattle.instance.proofs.Readable.{readable}
 use Rattle.placing.specs.Words.{entry, Laid}
 use Rattle.placing.specs.Labels.{Labels, Worded}
+use Rattle.placing.proofs.Linking.{words_none}
 use Rattle.placing.proofs.Laying.{laid_none, laid_more, bytes_of, bytes_inside, bytes_labels}
 use Rattle.placing.proofs.tables.lay_words.Goals as goal
-use Rattle.placing.proofs.tables.lay_words.Goals.{After-wide, In-loop-u, Start}
+use Rattle.placing.proofs.tables.lay_words.Goals.{After-from, After-loop-u, In-loop-u, Start}
 
 -- a turn's node
 module _ (t : In-loop-u) where
@@ -30,10 +31,10 @@ module _ (t : In-loop-u) where
   u = t.loop-u.u
 
   sound : Readable s
-  sound = readable s start.requires.sheet_value.0
+  sound = readable s start.requires.0
 
   node : u < I.node_count
-  node = omega (arith, t.loop-u-test.true, start.requires.sheet_value.1)
+  node = omega (arith, t.loop-u-test.true, start.requires.1)
 
   few : u < 64
   few = omega (arith, node, sound.proper.nodes_few)
@@ -42,29 +43,28 @@ module _ (t : In-loop-u) where
   from = start.args.n + entry start.args.starts.now u
 
   from_is : from ≡ I.node_count + first I u
-  from_is = ap₂ ◌+◌ start.requires.sheet_value.1 (start.requires.sheet_value.2 u t.loop-u-test.true)
+  from_is = ap₂ ◌+◌ start.requires.1 (start.requires.2 u t.loop-u-test.true)
 
   inside : from + I.degree u ≤ length s
   inside = omega (arith, from_is, bytes_inside sound node)
 
 -- where its labels end
-module _ (c : After-wide) where
+module _ (c : After-from) where
   abbrev turn : In-loop-u
-  turn = (goal.at.After-wide c).In-loop-u
+  turn = (goal.at.After-from c).In-loop-u
 
-  degree : c.wide.result ≡ (I turn).degree (u turn)
+  degree : c.from.result ≡ (I turn).degree (u turn)
   unfolding instance_of
-  degree = c.wide.ensures.0
+  degree = c.from.ensures
 
   abbrev past : ℕ
-  past = from turn + c.wide.result
+  past = from turn + c.from.result
 
   row_is : take (past - from turn) (drop (from turn) (s turn)) ≡ bytes_of (s turn) (u turn)
   row_is = let e : past - from turn ≡ (I turn).degree (u turn) = omega (arith, degree) in ap₂ (λ (d a : ℕ). take d (drop a (s turn))) e (from_is turn)
 
 pub loop-u-init : goal.loop-u-init
-loop-u-init c =
-    let q = c.requires.sets_len in (omega arith, record { laid = laid_none _ q.2; size_sets = q.0; size_own = q.1 })
+loop-u-init c = record { laid = laid_none _ (words_none 64); size_sets = refl; size_own = refl }
 
 pub offset_bounds-starts-u : goal.offset_bounds-starts-u
 offset_bounds-starts-u c = omega (arith, few c)
@@ -87,30 +87,31 @@ slice_bounds-row_of-end c = omega (arith, inside (turn c), degree c)
 
 pub row_of-row-requires : goal.row_of-row-requires
 row_of-row-requires c =
-    let b = (goal.at.row_of-row-requires c).After-wide in subst (λ l. Labels (entry l) (length l)) (sym (row_is b)) (bytes_labels (sound (turn b)) (node (turn b)))
+    let b = (goal.at.row_of-row-requires c).After-from in subst (λ l. Labels (entry l) (length l)) (sym (row_is b)) (bytes_labels (sound (turn b)) (node (turn b)))
 
 pub offset_bounds-sets-u : goal.offset_bounds-sets-u
-offset_bounds-sets-u c = omega (arith, few (turn (goal.at.offset_bounds-sets-u c).After-wide))
+offset_bounds-sets-u c = omega (arith, few (turn (goal.at.offset_bounds-sets-u c).After-from))
 
 pub bounds-sets-u : goal.bounds-sets-u
-bounds-sets-u c = few (turn (goal.at.bounds-sets-u c).After-wide)
+bounds-sets-u c = few (turn (goal.at.bounds-sets-u c).After-from)
 
 pub bounds-own-u : goal.bounds-own-u
-bounds-own-u c = few (turn (goal.at.bounds-own-u c).After-wide)
-
-pub overflow_add-u : goal.overflow_add-u
-overflow_add-u c = omega (arith, few (turn (goal.at.overflow_add-u c).After-wide))
-
-pub loop-u-smaller : goal.loop-u-smaller
-loop-u-smaller c = omega (arith, (turn (goal.at.loop-u-smaller c).After-wide).loop-u-test.true)
+bounds-own-u c = few (turn (goal.at.bounds-own-u c).After-from)
 
 pub loop-u-preserved : goal.loop-u-preserved
 loop-u-preserved c =
-    let b = (goal.at.loop-u-preserved c).After-wide in let t = turn b in
+    let b = (goal.at.loop-u-preserved c).After-from in let t = turn b in
     let w = subst (λ l. Worded (entry l) (length l) c.row_of-row.result.word c.row_of-row.result.own) (row_is b) c.row_of-row.ensures in
-    (omega (arith, t.loop-u-test.true), laid_more (sound t) (node t) w t.loop-u.invariant.1)
+    laid_more (sound t) (node t) w t.loop-u.invariant
+
+-- all of them
+done : (t : After-loop-u) → t.loop-u.u ≡ t.args.n
+done t = omega (arith, t.loop-u.auto.u-end, t.loop-u-test.false)
 
 pub returns : goal.returns
 returns c =
-    let e : c.loop-u.u ≡ c.args.n = omega (arith, c.loop-u.invariant.0, c.loop-u-test.false) in
-    subst (λ n. Laid (instance_of c.args.sheet.now) n c.loop-u.sets c.loop-u.own) e c.loop-u.invariant.1.laid
+    (refl, subst (λ n. Laid (instance_of c.args.sheet.now) n c.loop-u.sets c.loop-u.own) (done (goal.at.returns c).After-loop-u) c.loop-u.invariant.laid)
+
+pub invariant_of-result : goal.invariant_of-result
+invariant_of-result c =
+    let proper = (readable c.args.sheet.now c.requires.0).proper in record { few = omega (arith, c.requires.1, proper.nodes_few); fit = c.loop-u.invariant.laid.fit }

@@ -2,11 +2,13 @@
 use Prim.Native.Nat.{◌-◌}
 use mathlib.Core.Path.{◌≡◌}
 use lib.Count.{count_trailing_zeros}
+use lib.ListN.{set}
 use Rattle.placing.proofs.Settling.{Trying}
-use Rattle.placing.proofs.lowering.lower.Given as goal
+use Rattle.placing.proofs.seats.Seats.lower.Given as goal
 
 abbrev pub invariant-loop-rest : goal.invariant-loop-rest
-invariant-loop-rest l = (l.taken ≡ l.initial.taken) × (l.holders ≡ l.initial.holders) × (l.reach ≡ l.initial.reach) × Trying l.sets l.initial.taken l.initial.holders l.initial.reach l.closed l.u l.vacant l.seen l.rest
+invariant-loop-rest l = (l.self.nodes.now ≡ l.fn.self.nodes.now) × (l.self.taken ≡ set l.fn.self.taken l.u 255)
+    × Trying l.fn.self.nodes.now.sets l.fn.self.taken l.self.holders l.self.reach l.closed l.u l.self.free l.seen l.rest
 
 abbrev pub decreases-loop-rest : goal.decreases-loop-rest
 decreases-loop-rest l = 64 - count_trailing_zeros 64 l.rest
