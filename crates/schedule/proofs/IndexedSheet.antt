@@ -1,12 +1,11 @@
 -- A sheet that was read and not refused: its edges and its labels, as the indexes have them, and how many places have another label than 255.
 -- Assumes nothing.
-use mathlib.Core.Path.{◌≡◌, sym, ap, ap₂, subst, ◌∙◌}
+use mathlib.Core.Path.{◌≡◌, sym, ap, subst, ◌∙◌}
 use mathlib.Core.Bool.{cond}
-use mathlib.Core.List.{List, map}
-use Prim.Native.Nat.{ℕ, ◌+◌, ◌-◌, ◌*◌, ◌/◌, ◌%◌, ◌≤◌, ◌<◌}
-use native.Mathlib.Nat.{mul-add-div, mul-add-mod_self_left, div-eq_of_lt, mod-eq_of_lt}
+use mathlib.Core.List.{List, map, append_assoc}
+use Prim.Native.Nat.{ℕ, ◌+◌, ◌-◌, ◌*◌, ◌≤◌, ◌<◌}
 use native.Mathlib.Omega.{arith}
-use lib.ListN.{length, get_or, take, drop}
+use lib.ListN.{length, take, drop}
 use Rattle.integers.specs.Places.{range, offset}
 use Rattle.integers.proofs.Places.{length-range}
 use Rattle.instance.specs.Bytes.{byte}
@@ -20,8 +19,9 @@ use Rattle.instance.proofs.LaidOut.{positions_few_lem, refusal_is, laid_out}
 use Rattle.instance.proofs.Indexes.{labels_indexed, highs_indexed, lows_indexed}
 use Rattle.index.specs.Index.{index_of, many, held, Indexed}
 use Rattle.index.proofs.Indexed.{many_is}
+use Rattle.schedule.specs.declared.labels.Spot.{Spot}
 use Rattle.schedule.specs.declared.sweep.Counts.{Counts}
-use Rattle.schedule.specs.Sweep.{entry, each, falling, from_label, to_lower, to_higher, exclusive_positions, forward_at, label_at, backward_at, vanished, sweep_records, sweep_length}
+use Rattle.schedule.specs.Sweep.{entry, each, falling, from_edges, to_edges, from_label, to_lower, to_higher, exclusive_positions, forward_at, label_at, backward_at, vanished, sweep_records, sweep_length}
 use Rattle.schedule.specs.Writing.{Rows, Spots, Nodes, Swept, counts_of, edges_by, spotted, exclusive_at, forward_of, backward_by, label_by}
 use Rattle.schedule.proofs.WritingLaws.{each_ext, mem_below, falling_mem}
 use Rattle.schedule.proofs.CountLaws.{offset_ext}
@@ -35,14 +35,6 @@ indexed_as {key} {m} e x = subst (Indexed key m) (sym e) x
 -- an index whose things are few
 rows_of : {key : ℕ → ℕ} {m bound : ℕ} {index : List ℕ} → Indexed key m index → m ≤ bound → Rows index bound
 rows_of x h = record { few = x.few; inside = λ l j a b. let i = x.inside l j a b in omega arith }
-
--- a place's two numbers
-spot_is : (spots : List ℕ) (i u k : ℕ) → u < 256 → get_or spots i 0 ≡ 256 * k + u → spotted spots i ≡ entry 4 u k 1
-spot_is spots i u k h e =
-    let some : 0 < 256 = omega arith in
-    let q : (256 * k + u) % 256 ≡ u = mul-add-mod_self_left 256 k u ∙ mod-eq_of_lt h in
-    let d : (256 * k + u) / 256 ≡ k = mul-add-div some k u ∙ ap (◌+◌ k) (div-eq_of_lt h) ∙ omega arith in
-    ap₂ (λ (a b : ℕ). entry 4 a b 1) (ap (λ (x : ℕ). x % 256) e ∙ q) (ap (λ (x : ℕ). x / 256) e ∙ d)
 
 -- the counts that reading answered
 pub handed : (s : List ℕ) {l : Layout} {c : Counts} → l ≡ layout_of s → l.refusal ≡ 0 → c ≡ counts_of l → Swept s c
@@ -154,7 +146,7 @@ module _ {s : List ℕ} {c : Counts} (w : Swept s c) where
 
       forward_node : u < n → forward_of s n lower higher u ≡ forward_at I u
       unfolding forward_at
-      forward_node b = rw (lower_is, higher_is, many-higher, exclusive_node b)
+      forward_node b = rw (lower_is, higher_is, many-higher, exclusive_node b) (append_assoc (from_edges u (to_lower I u)) (to_edges u (length (to_higher I u) + 1) (to_higher I u)) _)
 
       backward_node : backward_by lower higher u ≡ backward_at I u
       unfolding backward_at
@@ -175,7 +167,7 @@ module _ {s : List ℕ} {c : Counts} (w : Swept s c) where
   pub places_indexed : {count : ℕ} {l : List ℕ} → count ≡ c.positions → l ≡ index_of (take count (drop n s)) 1 → Indexed I.label (node_cells I) l
   places_indexed a e = indexed_as e (labels_indexed s w.readable w.nodes (a ∙ w.positions))
 
-  module _ {places spots : List ℕ} (x : Indexed I.label (node_cells I) places) (m : Spots (byte s) n spots) where
+  module _ {places : List ℕ} {spots : List Spot} (x : Indexed I.label (node_cells I) places) (m : Spots (byte s) n spots) where
     pub place_rows : Rows places 1024
     place_rows = rows_of x (positions_few_lem proper)
 
@@ -185,7 +177,7 @@ module _ {s : List ℕ} {c : Counts} (w : Swept s c) where
         let f = nodes_few_lem in
         ap (map (spotted spots)) (x.rows l h)
         ∙ sym (label_list I l (spotted spots) (λ u k. entry 4 u k 1) I.node_count (λ u k b d.
-        spot_is spots (first I u + k) u k (omega (arith, proper.nodes_few)) (m.at u k (omega (arith, w.nodes)) d)))
+        ap (λ (s : Spot). entry 4 s.node s.position 1) (m.at u k (omega (arith, w.nodes)) d)))
 
     pub label_lists : each (label_by places spots) (falling c.labels) ≡ each (label_at I) (falling I.label_count)
     label_lists =

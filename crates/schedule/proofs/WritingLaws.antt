@@ -1,23 +1,25 @@
--- Writing records one after another: a buffer in which some are still to be written, turn by turn.
+-- Writing records one after another.
 -- Assumes nothing.
 use mathlib.Core.Path.{◌≡◌, refl, sym, ap, ap₂, subst, ◌∙◌}
-use mathlib.Core.List.{List, [], ◌∷◌, ◌++◌, map, append-nil, append_assoc}
+use mathlib.Core.List.{List, [], ◌∷◌, ◌++◌, map, map-append, append-nil, append_assoc}
 use mathlib.Core.List.Memᴰ.{head as here}
 use mathlib.Core.List.Memᴰ.{not-nil}
 use mathlib.Core.List.Memᴰ.{tail as there}
 use mathlib.Core.List.{Memᴰ as Mem}
 use Prim.Native.Nat.{ℕ, zero, suc, ◌+◌, ◌-◌, ◌*◌, ◌/◌, ◌%◌, ◌≤◌, ◌<◌}
-use native.Mathlib.Numerals.{add-one}
 use native.Mathlib.Omega.{arith}
-use lib.ListN.{length, get_or, set, length-append, drop_of_length-le, length-map}
-use lib.Seq.{sets, sets-eq, length-sets}
+use lib.ListN.{length, get_or, take, length-append, length-map}
+use lib.Seq.{take_all, length-take-le}
+use Rattle.std.proofs.lemmas.List.{take_more}
 use Rattle.integers.specs.Places.{range}
 use Rattle.integers.proofs.Places.{range_mem, length-range}
 use Rattle.integers.proofs.Ranges.{range_add}
 use Rattle.index.specs.Index.{many, held}
 use Rattle.index.proofs.Indexed.{length-held}
+use Rattle.schedule.specs.declared.labels.Spot.{Spot}
+use Rattle.schedule.specs.declared.writer.Writer.{Writer}
 use Rattle.schedule.specs.Sweep.{Entry, entry, bytes, each, falling, from_edges, to_edges, to_labels}
-use Rattle.schedule.specs.Writing.{Writing, Wrote, Room, received, sent, spotted, label_by}
+use Rattle.schedule.specs.Writing.{Wrote, Room, received, sent, passed, spotted, label_by}
 
 -- ---- bytes
 
@@ -30,11 +32,6 @@ pub length-bytes : (l : List Entry) → length (bytes l) ≡ 5 * length l
 unfolding bytes
 length-bytes [] = refl
 length-bytes (x ∷ l) = let h = length-bytes l in omega arith
-
-sets_append : (out : List ℕ) (at : ℕ) (k l : List ℕ) → sets out at (k ++ l) ≡ sets (sets out at k) (at + length k) l
-sets_append out at [] l = let e : at ≡ at + 0 = omega arith in ap (λ (i : ℕ). sets out i l) e
-sets_append out at (b ∷ k) l = let e : suc at + length k ≡ at + suc (length k) = omega arith in
-    sets_append (set out at b) (suc at) k l ∙ ap (λ (i : ℕ). sets (sets (set out at b) (suc at) k) i l) e
 
 -- ---- how many records
 
@@ -54,118 +51,79 @@ length-received edges u = length-map (held edges u) (λ e. entry 2 u e 1) ∙ le
 pub length-sent : (edges : List ℕ) (more u : ℕ) → length (sent edges more u) ≡ many edges u
 length-sent edges more u = length-to_edges u (many edges u + more) (held edges u) ∙ length-held edges u
 
-pub length_label : (places spots : List ℕ) (l : ℕ) → length (label_by places spots l) ≡ many places l
+pub length-passed : (from to : List ℕ) (more u : ℕ) → length (passed from to more u) ≡ many from u + many to u
+length-passed from to more u = omega (arith, length-append (received from u) (sent to more u), length-received from u, length-sent to more u)
+
+pub length_label : (places : List ℕ) (spots : List Spot) (l : ℕ) → length (label_by places spots l) ≡ many places l
 length_label places spots l = length-map (held places l) (spotted spots) ∙ length-held places l
 
-pub room_as : {out : List ℕ} {at a b : ℕ} → a ≡ b → Room out at a → Room out at b
-room_as e r = record { fits = omega (arith, e, r.fits) }
+pub length-mapped : {A : Type 0} (f : A → Entry) (xs : List A) (i : ℕ) → i ≤ length xs → length (map f (take i xs)) ≡ i
+length-mapped f xs i h = length-map (take i xs) f ∙ length-take-le i xs h
+
+pub length-shared : (u q : ℕ) (xs : List ℕ) (i : ℕ) → i ≤ length xs → length (to_edges u q (take i xs)) ≡ i
+length-shared u q xs i h = length-to_edges u q (take i xs) ∙ length-take-le i xs h
 
 -- ---- writing
 
-pub writing_start : (out : List ℕ) (at : ℕ) (whole : List Entry) → Writing out at whole out at whole
-writing_start out at whole = record { content = refl; place = refl }
+pub wrote_none : (w : Writer) → Wrote w [] w
+unfolding bytes
+wrote_none w = record { same_reference = refl; size = refl; place = omega arith; content = sym (append-nil _) }
 
-module _ {out₀ : List ℕ} {at₀ : ℕ} {whole : List Entry} {out : List ℕ} {at : ℕ} where
-  -- what is left in other words
-  pub writing_as : {k l : List Entry} → k ≡ l → Writing out₀ at₀ whole out at k → Writing out₀ at₀ whole out at l
-  writing_as e w = subst (λ (r : List Entry). Writing out₀ at₀ whole out at r) e w
+module _ {w : Writer} {k : List Entry} {w' : Writer} (x : Wrote w k w') where
+  -- one list after another
+  pub wrote_append : {l : List Entry} {w'' : Writer} → Wrote w' l w'' → Wrote w (k ++ l) w''
+  wrote_append {l} y = record {
+    same_reference = y.same_reference ∙ x.same_reference;
+    size = y.size ∙ x.size;
+    place = omega (arith, x.place, y.place, length-append k l);
+    content = y.content ∙ ap (λ (b : List ℕ). b ++ bytes l) x.content ∙ append_assoc (take w.at w.out.now) (bytes k) (bytes l) ∙ ap (λ (b : List ℕ). take w.at w.out.now ++ b) (sym (bytes_append k l));
+  }
 
-  -- the whole in other words
-  pub writing_for : {whole' l : List Entry} → whole ≡ whole' → Writing out₀ at₀ whole out at l → Writing out₀ at₀ whole' out at l
-  writing_for {whole'} {l} e w = subst (λ (r : List Entry). Writing out₀ at₀ r out at l) e w
+  -- the same list in other words
+  pub wrote_as : {l : List Entry} → k ≡ l → Wrote w l w'
+  wrote_as e = subst (λ (r : List Entry). Wrote w r w') e x
 
-  -- the first of what is left, k, was written
-  pub writing_more : (k l : List Entry) {out' : List ℕ} {at' : ℕ} → Writing out₀ at₀ whole out at (k ++ l) → Wrote out at k out' at' → Writing out₀ at₀ whole out' at' l
-  unfolding bytes
-  writing_more k l {out'} {at'} w v =
-      let n = length-append k l in
-      let m = length-bytes k in
-      let e : at' ≡ at + length (bytes k) = omega (arith, v.place) in
-      record {
-        content = ap₂ (λ (o : List ℕ) (i : ℕ). sets o i (bytes l)) v.content e
-            ∙ sym (sets_append out at (bytes k) (bytes l)) ∙ ap (sets out at) (sym (bytes_append k l)) ∙ w.content;
-        place = omega (arith, w.place, v.place);
-      }
+  -- of the room for n records what is left
+  pub room_left : {n : ℕ} (m : ℕ) → Room w n → length k + m ≤ n → Room w' m
+  room_left m r h = record { fits = omega (arith, x.place, x.size, r.fits) }
 
-  pub writing_size : (l : List Entry) → Writing out₀ at₀ whole out at l → length out ≡ length out₀
-  writing_size l w = sym (length-sets out at (bytes l)) ∙ ap length w.content ∙ length-sets out₀ at₀ (bytes whole)
-
-  -- there is room for it
-  pub writing_room : (k l : List Entry) → Writing out₀ at₀ whole out at (k ++ l) → Room out₀ at₀ (length whole) → Room out at (length k)
-  writing_room k l w h = record { fits = omega (arith, w.place, writing_size (k ++ l) w, length-append k l, h.fits) }
-
-  -- the same of one record
-  pub turn_room : {x : Entry} {k l : List Entry} → Writing out₀ at₀ whole out at k → k ≡ x ∷ l → Room out₀ at₀ (length whole) → Room out at 1
-  turn_room {x} {k} {l} w e r = writing_room (x ∷ []) l (writing_as e w) r
-
-  pub turn_more : {x : Entry} {k l : List Entry} {out' : List ℕ} {at' : ℕ} → Writing out₀ at₀ whole out at k → k ≡ x ∷ l → Wrote out at (x ∷ []) out' at' → Writing out₀ at₀ whole out' at' l
-  turn_more {x} {k} {l} w e v = writing_more (x ∷ []) l (writing_as e w) v
-
--- ---- one list after another
-
-module _ (k l : List Entry) {out : List ℕ} {at : ℕ} where
-  pub room_left : Room out at (length (k ++ l)) → Room out at (length k)
-  room_left r = record { fits = omega (arith, length-append k l, r.fits) }
-
-  module _ {out' : List ℕ} {at' : ℕ} (w : Wrote out at k out' at') where
-    pub room_right : Room out at (length (k ++ l)) → Room out' at' (length l)
-    room_right r = record { fits = omega (arith, length-append k l, w.place, writing_size [] w, r.fits) }
-
-    pub wrote_append : {out'' : List ℕ} {at'' : ℕ} → Wrote out' at' l out'' at'' → Wrote out at (k ++ l) out'' at''
-    wrote_append v = writing_more l [] (writing_as (sym (append-nil l)) (writing_more k l (writing_start out at (k ++ l)) w)) v
+-- room for fewer
+pub room_for : {w : Writer} {n : ℕ} (m : ℕ) → Room w n → m ≤ n → Room w m
+room_for m r h = record { fits = omega (arith, r.fits) }
 
 -- a whole buffer
-pub room_whole : {out : List ℕ} (l : List Entry) → length out ≡ length (bytes l) → Room out 0 (length l)
-room_whole l e = record { fits = omega (arith, e, length-bytes l) }
+pub wrote_all : {w w' : Writer} {l : List Entry} → Wrote w l w' → w.at ≡ 0 → length w.out.now ≡ length (bytes l) → w'.out.now ≡ bytes l
+wrote_all {w} {w'} {l} x z e =
+    let n : length w'.out.now ≤ w'.at = omega (arith, x.place, x.size, length-bytes l) in
+    sym (take_all w'.at w'.out.now n) ∙ x.content ∙ ap (λ (i : ℕ). take i w.out.now ++ bytes l) z
 
-pub wrote_all : {out out' : List ℕ} {at' : ℕ} (l : List Entry) → Wrote out 0 l out' at' → length out ≡ length (bytes l) → out' ≡ bytes l
-unfolding bytes
-wrote_all {out} {out'} {at'} l w e =
-    let z : length out ≤ 0 + length (bytes l) = omega arith in
-    w.content ∙ sets-eq (bytes l) out 0 (omega arith) ∙ ap (λ (r : List ℕ). bytes l ++ r) (drop_of_length-le out z) ∙ append-nil (bytes l)
+-- ---- turns of a loop over a list: one thing more
 
--- five stores
-pub five : (out : List ℕ) (at kind node index share : ℕ)
-    → Wrote out at (entry kind node index share ∷ []) (set (set (set (set (set out at kind) (at + 1) node) (at + 2) (index % 256)) (at + 3) (index / 256)) (at + 4) share) (at + 5)
-unfolding bytes
-five out at kind node index share =
-    let e1 : at + 1 ≡ suc at = omega arith in
-    let e2 : at + 2 ≡ suc (suc at) = omega arith in
-    let e3 : at + 3 ≡ suc (suc (suc at)) = omega arith in
-    let e4 : at + 4 ≡ suc (suc (suc (suc at))) = omega arith in
-    record { content = rw (e1, e2, e3, e4); place = omega arith }
+module _ {A : Type 0} (xs : List A) (i : ℕ) (d : A) (h : i < length xs) where
+  pub mapped_more : (f : A → Entry) → map f (take i xs) ++ f (get_or xs i d) ∷ [] ≡ map f (take (i + 1) xs)
+  mapped_more f = sym (map-append f (take i xs) (get_or xs i d ∷ [])) ∙ ap (map f) (sym (take_more xs i d h))
 
--- ---- loops: of the numbers below n what is left from i on, rising; and what is left when i have passed, falling
+-- with shares that fall
+to_edges_append : (u q : ℕ) (k l : List ℕ) → to_edges u q (k ++ l) ≡ to_edges u q k ++ to_edges u (q - length k) l
+unfolding to_edges
+to_edges_append u q [] l = let e : q ≡ q - 0 = omega arith in ap (λ (r : ℕ). to_edges u r l) e
+to_edges_append u q (e ∷ k) l =
+    let d : q - 1 - length k ≡ q - suc (length k) = omega arith in
+    ap (λ (r : List Entry). entry 1 u e q ∷ r) (to_edges_append u (q - 1) k l ∙ ap (λ (r : ℕ). to_edges u (q - 1) k ++ to_edges u r l) d)
 
-abbrev pub onward : ℕ → ℕ → List ℕ
-onward n i = range i (n - i)
+pub shared_more : (xs : List ℕ) (i u q : ℕ) → i < length xs → to_edges u q (take i xs) ++ entry 1 u (get_or xs i 0) (q - i) ∷ [] ≡ to_edges u q (take (i + 1) xs)
+unfolding to_edges
+shared_more xs i u q h =
+    ap (λ (r : ℕ). to_edges u q (take i xs) ++ entry 1 u (get_or xs i 0) (q - r) ∷ []) (sym (length-take-le i xs (omega arith)))
+    ∙ sym (to_edges_append u q (take i xs) (get_or xs i 0 ∷ [])) ∙ ap (to_edges u q) (sym (take_more xs i 0 h))
 
-pub onward_start : (n : ℕ) → range 0 n ≡ onward n 0
-onward_start n = let e : n ≡ n - 0 = omega arith in ap (range 0) e
-
-pub onward_more : {n i : ℕ} → i < n → onward n i ≡ i ∷ onward n (i + 1)
-unfolding range
-onward_more {n} {i} h =
-    let e : n - i ≡ suc (n - (i + 1)) = omega arith in
-    ap (range i) e ∙ ap (λ (k : ℕ). i ∷ range k (n - (i + 1))) (sym (add-one i))
-
-pub onward_end : {n i : ℕ} → n ≤ i → onward n i ≡ []
-unfolding range
-onward_end {n} {i} h = let e : n - i ≡ 0 = omega arith in ap (range i) e
-
-abbrev pub downward : ℕ → ℕ → List ℕ
-downward n i = falling (n - i)
-
-pub downward_start : (n : ℕ) → falling n ≡ downward n 0
-downward_start n = let e : n ≡ n - 0 = omega arith in ap falling e
-
-pub downward_more : {n i : ℕ} → i < n → downward n i ≡ (n - (i + 1)) ∷ downward n (i + 1)
-unfolding falling
-downward_more {n} {i} h = let e : n - i ≡ suc (n - (i + 1)) = omega arith in ap falling e
-
-pub downward_end : {n i : ℕ} → n ≤ i → downward n i ≡ []
-unfolding falling
-downward_end {n} {i} h = let e : n - i ≡ 0 = omega arith in ap falling e
+-- a position more
+pub positions_more : (u k : ℕ) → to_labels u (range 0 k) ++ entry 3 u k 1 ∷ [] ≡ to_labels u (range 0 (k + 1))
+unfolding to_labels range
+positions_more u k =
+    let f : ℕ → Entry = (λ k. entry 3 u k 1) in
+    let z : 0 + k ≡ k = omega arith in
+    ap (λ (a : ℕ). map f (range 0 k) ++ f a ∷ []) (sym z) ∙ sym (map-append f (range 0 k) (range (0 + k) 1)) ∙ ap (map f) (sym (range_add 0 k 1))
 
 -- the lists of each
 pub each_append : (f : ℕ → List Entry) (k l : List ℕ) → each f (k ++ l) ≡ each f k ++ each f l
@@ -186,6 +144,64 @@ unfolding each
 each_ext f g [] h = refl
 each_ext f g (i ∷ l) h = ap₂ ◌++◌ (h i (here refl)) (each_ext f g l (λ j m. h j (there m)))
 
+-- ---- a loop that writes a list for each of some numbers: some are done, and `rest` is left
+
+pub record Turns (f : ℕ → List Entry) (w : Writer) (all : List ℕ) (w' : Writer) (rest : List ℕ) : Type 0 where
+  pub done : List Entry
+  pub wrote : Wrote w done w'
+  pub left : done ++ each f rest ≡ each f all
+
+pub turns_start : (f : ℕ → List Entry) (w : Writer) {all rest : List ℕ} → rest ≡ all → Turns f w all w rest
+turns_start f w e = record { done = []; wrote = wrote_none w; left = ap (each f) e }
+
+module _ {f : ℕ → List Entry} {w : Writer} {all : List ℕ} {w' : Writer} {rest : List ℕ} (x : Turns f w all w' rest) where
+  module _ {i : ℕ} {l : List ℕ} (e : rest ≡ i ∷ l) where
+    split : each f rest ≡ f i ++ each f l
+    unfolding each
+    split = ap (each f) e
+
+    pub turns_room : Room w (length (each f all)) → Room w' (length (f i))
+    turns_room r =
+        room_left x.wrote (length (f i)) r
+        (omega (arith, ap length x.left, length-append x.done (each f rest), ap length split, length-append (f i) (each f l)))
+
+    pub turns_more : {w'' : Writer} → Wrote w' (f i) w'' → Turns f w all w'' l
+    turns_more y = record {
+      done = x.done ++ f i;
+      wrote = wrote_append x.wrote y;
+      left = append_assoc x.done (f i) (each f l) ∙ ap (λ (r : List Entry). x.done ++ r) (sym split) ∙ x.left;
+    }
+
+  pub turns_end : rest ≡ [] → Wrote w (each f all) w'
+  unfolding each
+  turns_end e = wrote_as x.wrote (sym (append-nil x.done) ∙ ap (λ (r : List ℕ). x.done ++ each f r) (sym e) ∙ x.left)
+
+-- ---- of the numbers below n what is left from i on, rising; and what is left of them, falling
+
+abbrev pub onward : ℕ → ℕ → List ℕ
+onward n i = range i (n - i)
+
+pub onward_start : (n : ℕ) → onward n 0 ≡ range 0 n
+onward_start n = let e : n - 0 ≡ n = omega arith in ap (range 0) e
+
+pub onward_more : {n i : ℕ} → i < n → onward n i ≡ i ∷ onward n (i + 1)
+unfolding range
+onward_more {n} {i} h =
+    let e : n - i ≡ suc (n - (i + 1)) = omega arith in
+    let d : suc i ≡ i + 1 = omega arith in ap (range i) e ∙ ap (λ (k : ℕ). i ∷ range k (n - (i + 1))) d
+
+pub onward_end : {n i : ℕ} → n ≤ i → onward n i ≡ []
+unfolding range
+onward_end {n} {i} h = let e : n - i ≡ 0 = omega arith in ap (range i) e
+
+pub falling_more : {i : ℕ} → 0 < i → falling i ≡ (i - 1) ∷ falling (i - 1)
+unfolding falling
+falling_more {i} h = let e : i ≡ suc (i - 1) = omega arith in ap falling e
+
+pub falling_end : {i : ℕ} → i ≡ 0 → falling i ≡ []
+unfolding falling
+falling_end e = ap falling e
+
 -- ---- what is in a list of numbers below n
 
 pub mem_below : {n i : ℕ} → Mem i (range 0 n) → i < n
@@ -196,53 +212,3 @@ unfolding falling
 falling_mem zero m = absurd (not-nil m)
 falling_mem (suc n) (here e) = omega arith
 falling_mem (suc n) (there m) = let h = falling_mem n m in omega arith
-
--- ---- a row of an index from its j-th thing on
-
-abbrev pub rest : List ℕ → ℕ → ℕ → List ℕ
-rest index l j = map (λ p. get_or index p 0) (range (65 * l + 1 + j) (many index l - j))
-
-pub rest_start : (index : List ℕ) (l : ℕ) → held index l ≡ rest index l 0
-rest_start index l =
-    let e : 65 * l + 1 ≡ 65 * l + 1 + 0 = omega arith in
-    let d : many index l ≡ many index l - 0 = omega arith in
-    ap₂ (λ (a n : ℕ). map (λ p. get_or index p 0) (range a n)) e d
-
--- with e as the j-th
-pub rest_more : (index : List ℕ) (l j : ℕ) {e : ℕ} → j < many index l → e ≡ get_or index (65 * l + 1 + j) 0 → rest index l j ≡ e ∷ rest index l (j + 1)
-unfolding range
-rest_more index l j h x =
-    let e : many index l - j ≡ suc (many index l - (j + 1)) = omega arith in
-    let d : suc (65 * l + 1 + j) ≡ 65 * l + 1 + (j + 1) = omega arith in
-    ap (λ (n : ℕ). map (λ p. get_or index p 0) (range (65 * l + 1 + j) n)) e
-    ∙ ap₂ (λ (e a : ℕ). e ∷ map (λ p. get_or index p 0) (range a (many index l - (j + 1)))) (sym x) d
-
-pub rest_end : (index : List ℕ) (l j : ℕ) → many index l ≤ j → rest index l j ≡ []
-unfolding range
-rest_end index l j h = let e : many index l - j ≡ 0 = omega arith in ap (λ (n : ℕ). map (λ p. get_or index p 0) (range (65 * l + 1 + j) n)) e
-
--- with shares that fall along it
-pub shares_more : (index : List ℕ) (u j more : ℕ) {e : ℕ} → j < many index u → e ≡ get_or index (65 * u + 1 + j) 0
-    → to_edges u (many index u - j + more) (rest index u j) ≡ entry 1 u e (many index u - j + more) ∷ to_edges u (many index u - (j + 1) + more) (rest index u (j + 1))
-unfolding to_edges
-shares_more index u j more {e} h x =
-    let d : many index u - j + more - 1 ≡ many index u - (j + 1) + more = omega arith in
-    ap (to_edges u (many index u - j + more)) (rest_more index u j h x) ∙ ap (λ (q : ℕ). entry 1 u e (many index u - j + more) ∷ to_edges u q (rest index u (j + 1))) d
-
--- ---- a loop that writes a list for each of some numbers: k are left, and after the turn of i, l
-
-pub each_start : (f : ℕ → List Entry) {k l : List ℕ} (out : List ℕ) (at : ℕ) → k ≡ l → Writing out at (each f k) out at (each f l)
-each_start f {k} out at e = writing_as (ap (each f) e) (writing_start out at (each f k))
-
-module _ (f : ℕ → List Entry) {out₀ : List ℕ} {at₀ : ℕ} {whole : List Entry} {out : List ℕ} {at : ℕ} {k : List ℕ} (w : Writing out₀ at₀ whole out at (each f k)) where
-  pub each_room : {i : ℕ} {l : List ℕ} → k ≡ i ∷ l → Room out₀ at₀ (length whole) → Room out at (length (f i))
-  unfolding each
-  each_room {i} {l} e r = writing_room (f i) (each f l) (writing_as (ap (each f) e) w) r
-
-  pub each_more : {i : ℕ} {l : List ℕ} {out' : List ℕ} {at' : ℕ} → k ≡ i ∷ l → Wrote out at (f i) out' at' → Writing out₀ at₀ whole out' at' (each f l)
-  unfolding each
-  each_more {i} {l} e v = writing_more (f i) (each f l) (writing_as (ap (each f) e) w) v
-
-  pub each_end : k ≡ [] → Wrote out₀ at₀ whole out at
-  unfolding each
-  each_end e = writing_as (ap (each f) e) w

@@ -1,13 +1,15 @@
 -- The answers of `write_sweep` and of `sweep_length`, case by case.
 -- Assumes nothing.
-use mathlib.Core.Path.{◌≡◌, sym, ap, ◌∙◌}
+use mathlib.Core.Path.{◌≡◌, refl, sym, ap, ◌∙◌}
 use mathlib.Core.Bool.{true, false, cond}
-use mathlib.Core.List.{List, [], ◌∷◌}
-use Prim.Native.Nat.{ℕ, ◌≤◌, ◌<◌}
+use mathlib.Core.List.{List, [], ◌∷◌, ◌++◌, append_assoc}
+use Prim.Native.Nat.{ℕ, ◌≤◌}
 use native.Mathlib.Omega.{arith}
-use borrow.Author.Tests.{eq-eqb, ne_eqb, eqb-true, eqb-false}
+use borrow.Author.Tests.{eq-eqb, ne_eqb, eqb-true}
 use lib.Dec.{eqb}
 use lib.ListN.{length}
+use Rattle.std.proofs.Common.{Some, None}
+use Rattle.integers.specs.Places.{range}
 use Rattle.integers.specs.Checks.{first_failure}
 use Rattle.integers.proofs.Places.{by-test, by_cond, if-true, if-false}
 use Rattle.integers.proofs.Checks.{failure_append, passes, fails}
@@ -16,26 +18,42 @@ use Rattle.instance.specs.Sheet.{instance_of, checks, refusal_of}
 use Rattle.instance.proofs.Readable.{readable}
 use Rattle.instance.proofs.LaidOut.{positions_few_lem}
 use Rattle.instance.proofs.Shown.{checks-numbered}
-use Rattle.schedule.specs.Sweep.{bytes, forward, backward, sweep, known, sweep_records, sweep_length}
+use Rattle.schedule.specs.declared.sweep.Direction.{Direction}
+use Rattle.schedule.specs.declared.sweep.Direction.TheVariants.{Forward, Backward}
+use Rattle.schedule.specs.Sweep.{Entry, bytes, each, falling, rounding, forward_at, label_at, backward_at, forward, backward, sweep, known, sweep_records, sweep_length}
+use Rattle.schedule.specs.Writing.{direction_of, direction_number}
 use Rattle.schedule.specs.Written.{written, sweep_room, own_checks, sweep_refusal, sweep_of}
 
-pub known_yes : (direction : ℕ) → direction ≤ 1 → known direction ≡ true
-unfolding known
-known_yes direction h =
-    by-test (eqb direction 0) (λ e. rw e) (λ e. let z : direction ≡ 0 → ⊥ = eqb-false direction 0 e in rw (e, eq-eqb direction 1 (omega arith)))
+-- a direction, by its number
+module _ (n : ℕ) where
+  pub direction_known : {d : Direction} → Some d ≡ direction_of n → (known n ≡ true) × (n ≡ direction_number d)
+  unfolding known direction_of
+  direction_known {d} e =
+      by-test (eqb n 0)
+      (λ t. let f : Some d ≡ Some Forward = e ∙ if-true _ _ t in let q : d ≡ Forward = cc in (rw t, eqb-true n 0 t ∙ sym (ap direction_number q)))
+      (λ t. by-test (eqb n 1)
+      (λ u. let f : Some d ≡ Some Backward = e ∙ if-false _ _ t ∙ if-true _ _ u in let q : d ≡ Backward = cc in (rw (t, u), eqb-true n 1 u ∙ sym (ap direction_number q)))
+      (λ u. let f : Some d ≡ None = e ∙ if-false _ _ t ∙ if-false _ _ u in absurd (cc)))
 
-pub known_no : (direction : ℕ) → 1 < direction → known direction ≡ false
-unfolding known
-known_no direction h = rw (ne_eqb direction 0 (λ z. omega arith), ne_eqb direction 1 (λ z. omega arith))
+  pub direction_unknown : None ≡ direction_of n → known n ≡ false
+  unfolding known direction_of
+  direction_unknown e =
+      by-test (eqb n 0)
+      (λ t. let f : None ≡ Some Forward = e ∙ if-true _ _ t in absurd (cc))
+      (λ t. by-test (eqb n 1)
+      (λ u. let f : None ≡ Some Backward = e ∙ if-false _ _ t ∙ if-true _ _ u in absurd (cc))
+      (λ u. rw (t, u)))
 
-module _ (I : Instance) {direction : ℕ} where
-  pub forward_is : direction ≡ 0 → sweep I direction ≡ forward I
-  unfolding sweep
-  forward_is e = if-true (forward I) (backward I) (eq-eqb direction 0 e)
+module _ (I : Instance) where
+  -- a sweep without its rounding
+  abbrev pub body : Direction → List Entry
+  body Forward = each (forward_at I) (range 0 I.node_count)
+  body Backward = each (label_at I) (falling I.label_count) ++ each (backward_at I) (falling I.node_count)
 
-  pub backward_is : (direction ≡ 0 → ⊥) → sweep I direction ≡ backward I
-  unfolding sweep
-  backward_is h = if-false (forward I) (backward I) (ne_eqb direction 0 h)
+  pub sweep_is : (d : Direction) → sweep I (direction_number d) ≡ body d ++ rounding
+  unfolding sweep forward backward
+  sweep_is Forward = refl
+  sweep_is Backward = sym (append_assoc (each (label_at I) (falling I.label_count)) (each (backward_at I) (falling I.node_count)) rounding)
 
 -- how many bytes to lend
 module _ (s : List ℕ) where

@@ -1,27 +1,53 @@
--- Contracts of the private functions: a buffer in which some records are to stand, one after another, and of which some are still to be written.
-use Rattle.std.specs.Prelude.{◌≡◌, cond, List, [], ◌++◌, map, ℕ, ◌+◌, ◌-◌, ◌*◌, ◌/◌, ◌%◌, ◌≤◌, ◌<◌, length, get_or, take, drop}
-use Rattle.std.proofs.lemmas.List.Edits.{sets}
+-- Contracts of the private functions: writing records one after another, and the records as the indexes have them.
+use Rattle.std.specs.Prelude.{◌≡◌, cond, List, ◌++◌, map, Option, Some, None, ℕ, ◌+◌, ◌-◌, ◌*◌, ◌≤◌, ◌<◌, eqb, length, get_or, take, drop}
 use Rattle.integers.specs.Places.{range, offset}
 use Rattle.instance.specs.Bytes.{byte}
 use Rattle.instance.specs.declared.reading.Layout.{Layout}
 use Rattle.instance.specs.Instance.{exclusive, node_cells}
 use Rattle.instance.specs.Sheet.{instance_of, refusal_of}
 use Rattle.index.specs.Index.{many, held, index_of}
+use Rattle.schedule.specs.declared.labels.Spot.{Spot}
 use Rattle.schedule.specs.declared.sweep.Counts.{Counts}
+use Rattle.schedule.specs.declared.sweep.Direction.{Direction}
+use Rattle.schedule.specs.declared.sweep.Direction.TheVariants.{Forward, Backward}
+use Rattle.schedule.specs.declared.sweep.End.{End}
+use Rattle.schedule.specs.declared.sweep.End.TheVariants.{Lower, Higher}
+use Rattle.schedule.specs.declared.writer.Kind.{Kind}
+use Rattle.schedule.specs.declared.writer.Kind.TheVariants.{ToEdge, FromEdge, ToLabel, FromLabel, Round}
+use Rattle.schedule.specs.declared.writer.Writer.{Writer}
 use Rattle.schedule.specs.Sweep.{Entry, entry, bytes, from_edges, to_edges, to_labels}
 
--- with `rest` written from `at` on, `out` is what it is to be: `out₀` with `whole` from `at₀` on
-pub record Writing (out₀ : List ℕ) (at₀ : ℕ) (whole : List Entry) (out : List ℕ) (at : ℕ) (rest : List Entry) : Type 0 where
-  pub content : sets out at (bytes rest) ≡ sets out₀ at₀ (bytes whole)
-  pub place : at + 5 * length rest ≡ at₀ + 5 * length whole
-
--- all of it is written, and `at` is the place after it
-abbrev pub Wrote : List ℕ → ℕ → List Entry → List ℕ → ℕ → Type 0
-Wrote out₀ at₀ whole out at = Writing out₀ at₀ whole out at []
+-- all records of a list were written: the bytes ahead of the place are those that were, and then theirs
+pub record Wrote (w : Writer) (l : List Entry) (w' : Writer) : Type 0 where
+  pub same_reference : w'.out.ghost_name ≡ w.out.ghost_name
+  pub size : length w'.out.now ≡ length w.out.now
+  pub place : w'.at ≡ w.at + 5 * length l
+  pub content : take w'.at w'.out.now ≡ take w.at w.out.now ++ bytes l
 
 -- there is room for so many records
-pub record Room (out : List ℕ) (at count : ℕ) : Type 0 where
-  pub fits : at + 5 * count ≤ length out
+pub record Room (w : Writer) (count : ℕ) : Type 0 where
+  pub fits : w.at + 5 * count ≤ length w.out.now
+
+-- ---- numbers
+
+abbrev pub kind_number : Kind → ℕ
+kind_number ToEdge = 1
+kind_number FromEdge = 2
+kind_number ToLabel = 3
+kind_number FromLabel = 4
+kind_number Round = 5
+
+abbrev pub direction_number : Direction → ℕ
+direction_number Forward = 0
+direction_number Backward = 1
+
+unfoldable pub direction_of : ℕ → Option Direction
+direction_of n = cond (eqb n 0) (Some Forward) (cond (eqb n 1) (Some Backward) None)
+
+-- where an end of an edge stands in its two bytes
+abbrev pub end_place : End → ℕ
+end_place Lower = 0
+end_place Higher = 1
 
 -- ---- the records as the indexes have them
 
@@ -51,32 +77,36 @@ pub record Nodes (s : List ℕ) (n : ℕ) : Type 0 where
   pub inside : n + offset (byte s) n ≤ length s
   pub labelled : (u : ℕ) → u < n → 1 ≤ byte s u
 
--- a node's part of each sweep, by its edges to lower and to higher nodes, and of a forward one by how many positions have a record
-abbrev pub forward_by : ℕ → List ℕ → List ℕ → ℕ → List Entry
-forward_by positions lower higher u = received lower u ++ (sent higher 1 u ++ to_labels u (range 0 positions))
+-- a node's records of edges, from those of one index and to those of the other
+abbrev pub passed : List ℕ → List ℕ → ℕ → ℕ → List Entry
+passed from to more u = received from u ++ sent to more u
 
+-- a node's part of each sweep, by its edges to lower and to higher nodes, and of a forward one by how many positions have a record
 abbrev pub forward_of : List ℕ → ℕ → List ℕ → List ℕ → ℕ → List Entry
-forward_of s n lower higher u = forward_by (exclusive_at s n u) lower higher u
+forward_of s n lower higher u = passed lower higher 1 u ++ to_labels u (range 0 (exclusive_at s n u))
 
 abbrev pub backward_by : List ℕ → List ℕ → ℕ → List Entry
-backward_by lower higher u = received higher u ++ sent lower 0 u
+backward_by lower higher u = passed higher lower 0 u
 
--- each place's node and, 256 times, its position there, at the nodes below n
-pub record Spots (degree : ℕ → ℕ) (n : ℕ) (spots : List ℕ) : Type 0 where
+abbrev pub spot : ℕ → ℕ → Spot
+spot u k = record { node = u; position = k }
+
+-- the places of the nodes below n
+pub record Spots (degree : ℕ → ℕ) (n : ℕ) (spots : List Spot) : Type 0 where
   pub size : length spots ≡ 1024
-  pub at : (u k : ℕ) → u < n → k < degree u → get_or spots (offset degree u + k) 0 ≡ 256 * k + u
+  pub at : (u k : ℕ) → u < n → k < degree u → get_or spots (offset degree u + k) (spot 0 0) ≡ spot u k
 
 -- k places of node u more, from `at` on
-pub record Marked (before : List ℕ) (at u k : ℕ) (after : List ℕ) : Type 0 where
+pub record Marked (before : List Spot) (at u k : ℕ) (after : List Spot) : Type 0 where
   pub size : length after ≡ length before
-  pub here : (j : ℕ) → j < k → get_or after (at + j) 0 ≡ 256 * j + u
-  pub ahead : (i : ℕ) → i < at → get_or after i 0 ≡ get_or before i 0
+  pub here : (j : ℕ) → j < k → get_or after (at + j) (spot 0 0) ≡ spot u j
+  pub ahead : (i : ℕ) → i < at → get_or after i (spot 0 0) ≡ get_or before i (spot 0 0)
 
 -- a label's records, by the places that have it
-abbrev pub spotted : List ℕ → ℕ → Entry
-spotted spots i = entry 4 (get_or spots i 0 % 256) (get_or spots i 0 / 256) 1
+abbrev pub spotted : List Spot → ℕ → Entry
+spotted spots i = let s = get_or spots i (spot 0 0) in entry 4 s.node s.position 1
 
-abbrev pub label_by : List ℕ → List ℕ → ℕ → List Entry
+abbrev pub label_by : List ℕ → List Spot → ℕ → List Entry
 label_by places spots l = map (spotted spots) (held places l)
 
 -- ---- what a function is handed of a sheet that was read and not refused

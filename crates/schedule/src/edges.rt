@@ -1,45 +1,43 @@
 // Records between a node and its edges: kinds 1 and 2. The edges stand in an index by the end that the node is at.
-ghost use Rattle.std.specs.Prelude.{◌≤◌, ◌<◌};
-ghost use Rattle.index.specs.Index.{many as many_of};
-ghost use Rattle.schedule.specs.Writing.{Wrote, Room, received, sent};
+ghost use Rattle.std.specs.Prelude.{◌≡◌, ◌++◌, ◌≤◌, ◌<◌, ◌+◌};
+ghost use Rattle.index.specs.Index.{many};
+ghost use Rattle.schedule.specs.Writing.{Wrote, Room, Rows, received, sent, passed};
 
-use crate::put::put;
-use crate::row::{many, thing};
+use crate::row::row;
+use crate::writer::{Kind, Writer};
 
 // Kind 2 with share 1 from each edge of node `u`.
-pub(crate) fn from_edges(edges: &[u16; 4160], u: usize, out: &mut [u8], at: usize) -> usize
-    requires u_bound { (u < 64) × (many_of edges.now u ≤ 64) }
-    requires room { Room out.old at (many_of edges.now u) }
-    ensures { Wrote out.old at (received edges.now u) out.new result }
+fn from_edges(edges: &[u16; 4160], u: usize, w: &mut Writer)
+    requires u_bound { (u < 64) × (many edges.now u ≤ 64) }
+    requires room { Room w.old (many edges.now u) }
+    ensures { Wrote w.old (received edges.now u) w.new }
 {
-    let many = many(edges, u);
-    let mut next = at;
-    let mut j = 0;
-    while j < many {
-        next = put(out, next, 2, u, thing(edges, u, j), 1);
-        j += 1;
+    for edge in row(edges, u) {
+        w.put(Kind::FromEdge, u as u8, *edge, 1);
     }
-    next
 }
 
 // Kind 1 to each of them, with shares that fall from their number and `more` on.
-pub(crate) fn to_edges(
-    edges: &[u16; 4160],
-    u: usize,
-    more: usize,
-    out: &mut [u8],
-    at: usize,
-) -> usize
-    requires u_bound { (u < 64) × (many_of edges.now u ≤ 64) × (more ≤ 1) }
-    requires room { Room out.old at (many_of edges.now u) }
-    ensures { Wrote out.old at (sent edges.now more u) out.new result }
+fn to_edges(edges: &[u16; 4160], u: usize, more: usize, w: &mut Writer)
+    requires u_bound { (u < 64) × (many edges.now u ≤ 64) × (more ≤ 1) }
+    requires room { Room w.old (many edges.now u) }
+    ensures { Wrote w.old (sent edges.now more u) w.new }
 {
-    let many = many(edges, u);
-    let mut next = at;
-    let mut j = 0;
-    while j < many {
-        next = put(out, next, 1, u, thing(edges, u, j), many - j + more);
-        j += 1;
+    let row = row(edges, u);
+    let first = row.len() + more;
+    for (j, edge) in row.iter().enumerate() {
+        let share = first - j;
+        w.put(Kind::ToEdge, u as u8, *edge, share as u8);
     }
-    next
+}
+
+// Node `u` in a sweep that comes from the edges of one index and goes on to those of the other.
+pub(crate) fn pass(from: &[u16; 4160], to: &[u16; 4160], u: usize, more: usize, w: &mut Writer)
+    requires rows { Rows from.now 256 × Rows to.now 256 }
+    requires u_bound { (u < 64) × (more ≤ 1) }
+    requires room { Room w.old (many from.now u + many to.now u) }
+    ensures { Wrote w.old (passed from.now to.now more u) w.new }
+{
+    from_edges(from, u, w);
+    to_edges(to, u, more, w);
 }

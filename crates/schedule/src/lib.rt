@@ -5,8 +5,8 @@
 
 mod edges;
 mod labels;
-mod put;
 mod row;
 mod sweep;
+mod writer;
 
 pub use sweep::{sweep_length, write_sweep};

@@ -2,17 +2,40 @@
 ghost use Rattle.std.specs.Prelude.{◌≡◌, ◌+◌, ◌*◌, ◌<◌, ◌≤◌, length};
 ghost use Rattle.integers.specs.Places.{range};
 ghost use Rattle.instance.specs.Sheet.{instance_of};
-ghost use Rattle.index.specs.Index.{Indexed};
-ghost use Rattle.schedule.specs.Sweep.{label_at, each, falling, bytes, forward as forward_list, backward as backward_list, sweep_length};
+ghost use Rattle.schedule.specs.Sweep.{label_at, each, falling, sweep, sweep_length};
 ghost use Rattle.schedule.specs.Written.{written, sweep_of, sweep_room};
-ghost use Rattle.schedule.specs.Writing.{Wrote, Room, Rows, Nodes, Swept, counts_of, edges_by, forward_by, forward_of, backward_by};
+ghost use Rattle.schedule.specs.Writing.{Wrote, Room, Rows, Nodes, Swept, counts_of, edges_by, direction_of, direction_number, end_place, forward_of, backward_by};
 
-use crate::edges::{from_edges, to_edges};
+use crate::edges::pass;
 use crate::labels::{exclusive_places, exclusive_positions, from_labels, spots, to_labels};
-use crate::put::put;
-use index::{index_by, wide};
+use crate::writer::{Kind, Writer};
+use index::index_by;
 use messages::refusal::{BUFFER_LENGTH, NO_SUCH_RECORD, NONE};
 use messages::{Layout, read};
+
+// The two directions, by their numbers.
+#[derive(Clone, Copy)]
+pub(crate) enum Direction {
+    Forward = 0,
+    Backward = 1,
+}
+
+fn direction_of(number: u8) -> Option<Direction>
+    ensures { result ≡ direction_of number }
+{
+    match number {
+        0 => Some(Direction::Forward),
+        1 => Some(Direction::Backward),
+        _ => None,
+    }
+}
+
+// The two ends of an edge, by where they stand in its bytes.
+#[derive(Clone, Copy)]
+pub(crate) enum End {
+    Lower = 0,
+    Higher = 1,
+}
 
 // n, L, E and N of a sheet.
 #[derive(Clone, Copy)]
@@ -34,143 +57,73 @@ fn counts_of(layout: Layout) -> Counts
     }
 }
 
-// The edges by their lower (0) or by their higher (1) ends.
-fn edges_by(sheet: &[u8], counts: Counts, end: usize) -> [u16; 4160]
-    requires swept { Swept sheet.now counts }
-    requires end_bound { end ≤ 1 }
-    ensures { result ≡ edges_by sheet.now counts end }
+// The edges by one of their ends.
+fn edges_by(sheet: &[u8], counts: Counts, end: End) -> [u16; 4160]
+    requires { Swept sheet.now counts }
+    ensures { result ≡ edges_by sheet.now counts (end_place end) }
 {
-    let from = counts.nodes + 5 * counts.positions + end;
+    let from = counts.nodes + 5 * counts.positions + end as usize;
     let past = from + 2 * counts.edges;
     index_by(&sheet[from..past], 2)
 }
 
-// Node `u` in a forward sweep: from its edges to lower nodes, to those to higher nodes, to its labels at `positions` positions.
-fn forward_at(
-    positions: usize,
-    lower: &[u16; 4160],
-    higher: &[u16; 4160],
-    u: usize,
-    out: &mut [u8],
-    at: usize,
-) -> usize
-    requires rows { Rows lower.now 256 }
-    requires rows_2 { Rows higher.now 256 }
-    requires u_bound { (u < 64) × (positions ≤ 256) }
-    requires room { Room out.old at (length (forward_by positions lower.now higher.now u)) }
-    ensures { Wrote out.old at (forward_by positions lower.now higher.now u) out.new result }
-{
-    let received = from_edges(lower, u, out, at);
-    let sent = to_edges(higher, u, 1, out, received);
-    to_labels(positions, u, out, sent)
-}
-
-// Node `u` in a backward sweep: from its edges to higher nodes, to those to lower nodes.
-fn backward_at(
-    lower: &[u16; 4160],
-    higher: &[u16; 4160],
-    u: usize,
-    out: &mut [u8],
-    at: usize,
-) -> usize
-    requires rows { Rows lower.now 256 }
-    requires rows_2 { Rows higher.now 256 }
-    requires u_bound { u < 64 }
-    requires room { Room out.old at (length (backward_by lower.now higher.now u)) }
-    ensures { Wrote out.old at (backward_by lower.now higher.now u) out.new result }
-{
-    let received = from_edges(higher, u, out, at);
-    to_edges(lower, u, 0, out, received)
-}
-
-// The nodes, rising.
-fn forward_nodes(
-    sheet: &[u8],
-    n: usize,
-    lower: &[u16; 4160],
-    higher: &[u16; 4160],
-    out: &mut [u8],
-    at: usize,
-) -> usize
-    requires rows { Rows lower.now 256 }
-    requires rows_2 { Rows higher.now 256 }
+// The nodes, rising: from the edges to lower nodes, to those to higher nodes, to the labels.
+fn forward(sheet: &[u8], n: usize, lower: &[u16; 4160], higher: &[u16; 4160], w: &mut Writer)
+    requires rows { Rows lower.now 256 × Rows higher.now 256 }
     requires nodes { Nodes sheet.now n }
-    requires room { Room out.old at (length (each (forward_of sheet.now n lower.now higher.now) (range 0 n))) }
-    ensures { Wrote out.old at (each (forward_of sheet.now n lower.now higher.now) (range 0 n)) out.new result }
+    requires room { Room w.old (length (each (forward_of sheet.now n lower.now higher.now) (range 0 n))) }
+    ensures { Wrote w.old (each (forward_of sheet.now n lower.now higher.now) (range 0 n)) w.new }
 {
-    let mut next = at;
     let mut past = n;
-    let mut u = 0;
-    while u < n {
-        let degree = wide(sheet[u]);
+    for (u, degree) in sheet[..n].iter().enumerate() {
+        let degree = usize::from(*degree);
         past += degree;
         let positions = exclusive_positions(sheet, past, degree);
-        next = forward_at(positions, lower, higher, u, out, next);
-        u += 1;
+        pass(lower, higher, u, 1, w);
+        to_labels(u, positions, w);
     }
-    next
-}
-
-// The nodes, falling.
-fn backward_nodes(
-    n: usize,
-    lower: &[u16; 4160],
-    higher: &[u16; 4160],
-    out: &mut [u8],
-    at: usize,
-) -> usize
-    requires rows { Rows lower.now 256 }
-    requires rows_2 { Rows higher.now 256 }
-    requires n_bound { n ≤ 64 }
-    requires room { Room out.old at (length (each (backward_by lower.now higher.now) (falling n))) }
-    ensures { Wrote out.old at (each (backward_by lower.now higher.now) (falling n)) out.new result }
-{
-    let mut next = at;
-    let mut passed = 0;
-    while passed < n {
-        passed += 1;
-        let u = n - passed;
-        next = backward_at(lower, higher, u, out, next);
-    }
-    next
 }
 
 // The labels, falling.
-fn backward_labels(sheet: &[u8], counts: Counts, out: &mut [u8], at: usize) -> usize
+fn backward_labels(sheet: &[u8], counts: Counts, w: &mut Writer)
     requires swept { Swept sheet.now counts }
-    requires room { Room out.old at (length (each (label_at (instance_of sheet.now)) (falling (instance_of sheet.now).label_count))) }
-    ensures { Wrote out.old at (each (label_at (instance_of sheet.now)) (falling (instance_of sheet.now).label_count)) out.new result }
+    requires room { Room w.old (length (each (label_at (instance_of sheet.now)) (falling (instance_of sheet.now).label_count))) }
+    ensures { Wrote w.old (each (label_at (instance_of sheet.now)) (falling (instance_of sheet.now).label_count)) w.new }
 {
     let n = counts.nodes;
     let prices = n + counts.positions;
     let places = index_by(&sheet[n..prices], 1);
-    let spots = spots(sheet, n);
-    from_labels(&places, &spots, counts.labels, out, at)
+    from_labels(&places, &spots(sheet, n), counts.labels, w);
 }
 
-// The whole forward list. `lower` has the edges by their higher ends.
-fn forward(sheet: &[u8], counts: Counts, lower: &[u16; 4160], out: &mut [u8])
-    requires swept { Swept sheet.now counts }
-    requires indexed { Indexed (instance_of sheet.now).high (instance_of sheet.now).edge_count lower.now }
-    requires out_len { length out.old ≡ length (bytes (forward_list (instance_of sheet.now))) }
-    ensures { out.new ≡ bytes (forward_list (instance_of sheet.now)) }
+// The nodes, falling: from the edges to higher nodes, to those to lower nodes.
+fn backward_nodes(n: usize, lower: &[u16; 4160], higher: &[u16; 4160], w: &mut Writer)
+    requires rows { Rows lower.now 256 × Rows higher.now 256 }
+    requires n_bound { n ≤ 64 }
+    requires room { Room w.old (length (each (backward_by lower.now higher.now) (falling n))) }
+    ensures { Wrote w.old (each (backward_by lower.now higher.now) (falling n)) w.new }
 {
-    let higher = edges_by(sheet, counts, 0);
-    let at = forward_nodes(sheet, counts.nodes, lower, &higher, out, 0);
-    put(out, at, 5, 0, 0, 0);
+    for u in (0..n).rev() {
+        pass(higher, lower, u, 0, w);
+    }
 }
 
-// The whole backward list.
-fn backward(sheet: &[u8], counts: Counts, lower: &[u16; 4160], out: &mut [u8])
+// A whole sweep.
+fn whole(sheet: &[u8], counts: Counts, direction: Direction, w: &mut Writer)
     requires swept { Swept sheet.now counts }
-    requires indexed { Indexed (instance_of sheet.now).high (instance_of sheet.now).edge_count lower.now }
-    requires out_len { length out.old ≡ length (bytes (backward_list (instance_of sheet.now))) }
-    ensures { out.new ≡ bytes (backward_list (instance_of sheet.now)) }
+    requires room { Room w.old (length (sweep (instance_of sheet.now) (direction_number direction))) }
+    ensures { Wrote w.old (sweep (instance_of sheet.now) (direction_number direction)) w.new }
 {
-    let higher = edges_by(sheet, counts, 0);
-    let received = backward_labels(sheet, counts, out, 0);
-    let sent = backward_nodes(counts.nodes, lower, &higher, out, received);
-    put(out, sent, 5, 0, 0, 0);
+    let lower = edges_by(sheet, counts, End::Higher);
+    let higher = edges_by(sheet, counts, End::Lower);
+    match direction {
+        Direction::Forward => forward(sheet, counts.nodes, &lower, &higher, w),
+        Direction::Backward => {
+            backward_labels(sheet, counts, w);
+            backward_nodes(counts.nodes, &lower, &higher, w);
+        }
+    }
+    w.put(Kind::Round, 0, 0, 0);
 }
 
 // How many bytes a sweep has, by the number of its edges and of the places that have a record.
@@ -209,18 +162,14 @@ pub fn write_sweep(sheet: &[u8], direction: u8, out: &mut [u8]) -> u8
     if layout.refusal != NONE {
         return layout.refusal;
     }
-    if 1 < direction {
+    let Some(direction) = direction_of(direction) else {
         return NO_SUCH_RECORD;
-    }
+    };
     let counts = counts_of(layout);
     if out.len() != length_of(sheet, counts) {
         return BUFFER_LENGTH;
     }
-    let lower = edges_by(sheet, counts, 1);
-    if direction == 0 {
-        forward(sheet, counts, &lower, out);
-        return NONE;
-    }
-    backward(sheet, counts, &lower, out);
+    let mut w = Writer { out, at: 0 };
+    whole(sheet, counts, direction, &mut w);
     NONE
 }

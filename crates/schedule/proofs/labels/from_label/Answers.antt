@@ -1,77 +1,31 @@
 -- `from_label` meets its contract: a record for each place of the row.
-use mathlib.Core.Path.{◌≡◌, sym, ap, ◌∙◌}
-use mathlib.Core.List.{List, ◌∷◌, map}
-use Prim.Native.Nat.{ℕ, ◌+◌, ◌/◌, ◌%◌, ◌<◌}
+use mathlib.Core.Path.{ap, ◌∙◌}
+use mathlib.Core.List.{[], ◌∷◌}
+use Prim.Native.Nat.{ℕ}
 use native.Mathlib.Omega.{arith}
-use Rattle.index.specs.Index.{many as many_of}
+use lib.ListN.{get_or}
 use Rattle.schedule.specs.Sweep.{entry}
-use Rattle.schedule.specs.Writing.{spotted, label_by}
-use Rattle.schedule.proofs.WritingLaws.{length_label, room_as, writing_start, writing_as, turn_room, turn_more, rest, rest_start, rest_more, rest_end}
+use Rattle.schedule.specs.Writing.{spot, spotted}
+use Rattle.schedule.proofs.RowLaws.{row_long, row_inside}
+use Rattle.schedule.proofs.WritingLaws.{length-mapped, wrote_none, wrote_append, wrote_as, room_left, mapped_more}
 use Rattle.schedule.proofs.labels.from_label.Goals as goal
-use Rattle.schedule.proofs.labels.from_label.Goals.{After-number-spot, After-thing-place, In-loop-j, Start}
 
--- a place of the row
-module _ (i : In-loop-j) where
-  abbrev q : Start
-  q = (goal.at.In-loop-j i).Start
+pub loop-place-init : goal.loop-place-init
+loop-place-init c = wrote_none c.args.w.now
 
-  abbrev places : List ℕ
-  places = q.args.places.now
+pub bounds-spots-from : goal.bounds-spots-from
+bounds-spots-from c =
+    omega (arith, row_inside c.args.label c.requires.rows c.row-place-items.ensures c.requires.label_bound c.loop-place.place-index (omega arith))
 
-  abbrev label : ℕ
-  label = q.args.label
+pub put-requires : goal.put-requires
+put-requires c =
+    room_left c.loop-place.invariant 1 c.requires.room
+    (omega (arith, length-mapped (spotted c.args.spots.now) c.row-place-items.result.now c.loop-place.place-index (omega arith), row_long c.args.places.now c.args.label c.row-place-items.ensures))
 
-  abbrev j : ℕ
-  j = i.loop-j.j
-
-  more : j < many_of places label
-  more = omega (arith, i.loop-j-test.true, i.many-many.ensures)
-
-inside : (p : After-thing-place) → p.thing-place.result < 1024
-inside p = let i = (goal.at.After-thing-place p).In-loop-j in omega (arith, p.thing-place.ensures.0, (q i).requires.rows.inside (label i) (j i) (q i).requires.label_bound (more i))
-
-next : (n : After-number-spot) → let i = (goal.at.After-number-spot n).In-loop-j in let spots = (q i).args.spots.now in
-    map (spotted spots) (rest (places i) (label i) (j i)) ≡ entry 4 (n.number-spot.result % 256) (n.number-spot.result / 256) 1 ∷ map (spotted spots) (rest (places i) (label i) (j i + 1))
-next n =
-    let i = (goal.at.After-number-spot n).In-loop-j in let spots = (q i).args.spots.now in
-    ap (map (spotted spots)) (rest_more (places i) (label i) (j i) (more i) n.thing-place.ensures.0)
-    ∙ ap (λ (x : ℕ). entry 4 (x % 256) (x / 256) 1 ∷ map (spotted spots) (rest (places i) (label i) (j i + 1))) (sym n.number-spot.ensures.0)
-
-pub many-many-requires : goal.many-many-requires
-many-many-requires c = c.requires.label_bound
-
-pub loop-j-init : goal.loop-j-init
-loop-j-init c =
-    let a = c.args in
-    (omega arith, writing_as (ap (map (spotted a.spots.now)) (rest_start a.places.now a.label)) (writing_start a.out.now a.at (label_by a.places.now a.spots.now a.label)))
-
-pub thing-place-requires : goal.thing-place-requires
-thing-place-requires c =
-    (c.requires.label_bound, omega (arith, more c, c.requires.rows.few c.args.label c.requires.label_bound))
-
-pub offset_bounds-spots-place : goal.offset_bounds-spots-place
-offset_bounds-spots-place c = omega (arith, inside c)
-
-pub bounds-spots-place : goal.bounds-spots-place
-bounds-spots-place c = inside (goal.at.bounds-spots-place c).After-thing-place
-
-pub put-next-requires : goal.put-next-requires
-put-next-requires c =
-    let x = c.number-spot.ensures.1 in
-    record { room = turn_room c.loop-j.invariant.1 (next (goal.at.put-next-requires c).After-number-spot) (room_as (sym (length_label c.args.places.now c.args.spots.now c.args.label)) c.requires.room); node_bound = (omega arith, omega arith, omega arith) }
-
-pub overflow_add-j : goal.overflow_add-j
-overflow_add-j c =
-    omega (arith, c.loop-j-test.true, c.ranges, c.many-many.ensures, c.requires.rows.few c.args.label c.requires.label_bound)
-
-pub loop-j-smaller : goal.loop-j-smaller
-loop-j-smaller c = omega (arith, c.loop-j-test.true)
-
-pub loop-j-preserved : goal.loop-j-preserved
-loop-j-preserved c =
-    (omega (arith, more (goal.at.loop-j-preserved c).In-loop-j), turn_more c.loop-j.invariant.1 (next (goal.at.loop-j-preserved c).After-number-spot) c.put-next.ensures)
-
-pub returns : goal.returns
-returns c =
-    let l = c.loop-j in
-    writing_as (ap (map (spotted c.args.spots.now)) (rest_end c.args.places.now c.args.label l.j (omega (arith, c.loop-j-test.false, c.many-many.ensures)))) l.invariant.1
+pub loop-place-preserved : goal.loop-place-preserved
+loop-place-preserved c =
+    let spots = c.args.spots.now in
+    let e = ap (λ (k : ℕ). entry 4 (get_or spots c.from.result (spot 0 0)).node k 1 ∷ []) c.from-in-loop-place.ensures in
+    let d = ap (λ (i : ℕ). spotted spots i ∷ []) c.from.ensures in
+    wrote_as (wrote_append c.loop-place.invariant (wrote_as c.put.ensures (e ∙ d)))
+    (mapped_more c.row-place-items.result.now c.loop-place.place-index 0 (omega arith) (spotted c.args.spots.now))

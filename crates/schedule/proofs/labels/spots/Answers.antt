@@ -1,45 +1,47 @@
 -- `spots` meets its contract: one node after another.
-use mathlib.Core.Path.{◌≡◌, sym, ◌∙◌, subst}
-use Prim.Native.Nat.{ℕ, ◌+◌}
+use mathlib.Core.Path.{◌≡◌, sym, ◌∙◌}
+use mathlib.Core.List.{List}
+use Prim.Native.Nat.{ℕ, ◌+◌, ◌<◌, ◌≤◌}
 use native.Mathlib.Omega.{arith}
 use Rattle.integers.specs.Places.{offset}
 use Rattle.integers.proofs.Totals.{offset_le, offset_more, offset_none}
 use Rattle.instance.specs.Bytes.{byte}
-use Rattle.schedule.specs.Writing.{Spots}
+use Rattle.schedule.proofs.NodeTurns.{degree_is}
 use Rattle.schedule.proofs.SpotLaws.{spots_none, spots_more}
 use Rattle.schedule.proofs.labels.spots.Goals as goal
+use Rattle.schedule.proofs.labels.spots.Goals.{After-from-degree}
+
+-- a node's degree
+module _ (p : After-from-degree) where
+  abbrev s : List ℕ
+  s = p.args.sheet.now
+
+  abbrev u : ℕ
+  u = p.loop-u.u
+
+  degree : (u < p.args.n) × (p.from-degree.result ≡ byte s u)
+  degree = degree_is s p.requires.0 p.loop-u-test.true p.from-degree.ensures
+
+  inside : p.loop-u.at + p.from-degree.result ≤ 1024
+  inside = omega (arith, p.loop-u.invariant.0, degree.1, offset_le (byte s) u p.args.n degree.0, p.requires)
 
 pub loop-u-init : goal.loop-u-init
-loop-u-init c = let f = byte c.args.sheet.now in (omega arith, sym (offset_none f), spots_none f)
+loop-u-init c = let f = byte c.args.sheet.now in (sym (offset_none f), spots_none f)
 
-pub bounds-sheet-u : goal.bounds-sheet-u
-bounds-sheet-u c = omega (arith, c.loop-u-test.true, c.requires)
+pub mark-requires : goal.mark-requires
+mark-requires c =
+    let p = (goal.at.mark-requires c).After-from-degree in
+    (c.loop-u.invariant.1.size, inside p, omega arith, omega (arith, (degree p).0, c.requires))
 
-pub mark-at-requires : goal.mark-at-requires
-mark-at-requires c =
-    let o = offset_le (byte c.args.sheet.now) c.loop-u.u c.args.n c.loop-u-test.true in
-    let d = c.wide.ensures in
-    (c.loop-u.invariant.2.size, omega (arith, c.loop-u.invariant.1, c.requires), d.1, omega (arith, c.loop-u-test.true, c.requires))
-
-pub overflow_add-u : goal.overflow_add-u
-overflow_add-u c = omega (arith, c.loop-u-test.true, c.requires)
-
-pub loop-u-smaller : goal.loop-u-smaller
-loop-u-smaller c = omega (arith, c.loop-u-test.true)
+pub overflow_add-at : goal.overflow_add-at
+overflow_add-at c = omega (arith, inside (goal.at.overflow_add-at c).After-from-degree)
 
 pub loop-u-preserved : goal.loop-u-preserved
 loop-u-preserved c =
+    let p = (goal.at.loop-u-preserved c).After-from-degree in
     let l = c.loop-u in
-    let f = byte c.args.sheet.now in
-    let d = c.wide.ensures.0 in (
-      omega (arith, c.loop-u-test.true),
-      c.mark-at.ensures.value ∙ (let e : l.at + c.wide.result ≡ offset f l.u + f l.u = omega (arith, l.invariant.1, d) in e) ∙ sym (offset_more f l.u),
-      spots_more l.invariant.2 l.invariant.1 (rw d at c.mark-at.ensures.marked),
+    let f = byte (s p) in
+    let d = (degree p).1 in (
+      (let e : l.at + c.from-degree.result ≡ offset f l.u + f l.u = omega (arith, l.invariant.0, d) in e) ∙ sym (offset_more f l.u),
+      spots_more l.invariant.1 l.invariant.0 (rw d at c.mark.ensures),
     )
-
-pub returns : goal.returns
-returns c =
-    let l = c.loop-u in
-    let a = c.args in
-    let e : l.u ≡ a.n = omega (arith, l.invariant.0, c.loop-u-test.false) in
-    subst (λ (n : ℕ). Spots (byte a.sheet.now) n l.spots) e l.invariant.2

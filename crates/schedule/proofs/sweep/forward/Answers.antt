@@ -1,59 +1,82 @@
--- `forward` meets its contract: the nodes' lists, and then the rounding.
-use mathlib.Core.Path.{◌≡◌, sym, ap}
+-- `forward` meets its contract: a list for each node, rising.
+use mathlib.Core.Path.{◌≡◌, ap}
 use mathlib.Core.List.{List, ◌++◌}
+use Prim.Native.Nat.{ℕ, ◌+◌, ◌<◌, ◌≤◌}
 use native.Mathlib.Omega.{arith}
-use lib.ListN.{length}
+use lib.ListN.{length, length-append}
+use lib.Seq.{length-take-le}
 use Rattle.integers.specs.Places.{range}
-use Rattle.instance.specs.Instance.{Instance}
-use Rattle.instance.specs.Sheet.{instance_of}
-use Rattle.index.specs.Index.{Indexed}
-use Rattle.schedule.specs.Sweep.{Entry, each, rounding, forward_at, forward}
-use Rattle.schedule.specs.Writing.{Room, forward_of}
-use Rattle.schedule.proofs.WritingLaws.{room_as, room_whole, room_left, room_right, writing_for, wrote_append, wrote_all}
-use Rattle.schedule.proofs.IndexedSheet.{nodes_inside, higher_indexed, lower_rows, higher_rows, forward_nodes}
+use Rattle.integers.proofs.Totals.{offset_none}
+use Rattle.instance.specs.Bytes.{byte}
+use Rattle.schedule.specs.Sweep.{Entry, to_labels}
+use Rattle.schedule.specs.Writing.{Room, passed, exclusive_at, forward_of}
+use Rattle.schedule.proofs.NodeTurns.{degree_is, labels_inside, past_more, count_is}
+use Rattle.schedule.proofs.WritingLaws.{length-passed, length-to_labels, wrote_append, wrote_as, room_left, room_for, turns_start, turns_room, turns_more, turns_end, onward_start, onward_more, onward_end}
 use Rattle.schedule.proofs.sweep.forward.Goals as goal
-use Rattle.schedule.proofs.sweep.forward.Goals.{After-edges_by-higher, Start}
+use Rattle.schedule.proofs.sweep.forward.Goals.{After-exclusive_positions-positions, After-from-degree}
 
-module _ (q : Start) where
-  abbrev I : Instance
-  I = instance_of q.args.sheet.now
+-- a node's degree
+module _ (p : After-from-degree) where
+  abbrev s : List ℕ
+  s = p.args.sheet.now
 
-  lower : Indexed I.high I.edge_count q.args.lower.now
-  lower = q.requires.indexed
+  abbrev u : ℕ
+  u = p.loop-u.u
 
-  -- the nodes' lists
-  abbrev nodes : List Entry
-  nodes = each (forward_at I) (range 0 I.node_count)
+  degree : (u < p.args.n) × (p.from-degree.result ≡ byte s u)
+  degree = degree_is s (omega (arith, p.requires.nodes.inside)) p.loop-u-test.true p.from-degree.ensures
 
-  room : Room q.args.out.now 0 (length (nodes ++ rounding))
-  unfolding forward
-  room = room_whole (nodes ++ rounding) q.requires.out_len
+  inside : (1 ≤ p.from-degree.result) × (1 ≤ p.loop-u.past + p.from-degree.result) × (p.loop-u.past + p.from-degree.result ≤ length s)
+  inside = labels_inside p.requires.nodes degree.0 p.loop-u.invariant.0 degree.1
 
--- the edges by their lower ends
-module _ (x : After-edges_by-higher) where
-  abbrev start : Start
-  start = (goal.at.After-edges_by-higher x).Start
+-- its list
+module _ (x : After-exclusive_positions-positions) where
+  abbrev node : After-from-degree
+  node = (goal.at.After-exclusive_positions-positions x).After-from-degree
 
-  higher : Indexed (I start).low (I start).edge_count x.edges_by-higher.result
-  higher = higher_indexed start.requires.swept x.edges_by-higher.ensures
+  abbrev edges : List Entry
+  edges = passed x.args.lower.now x.args.higher.now 1 x.loop-u.u
 
-  lists : each (forward_of start.args.sheet.now start.args.counts.nodes start.args.lower.now x.edges_by-higher.result) (range 0 start.args.counts.nodes) ≡ nodes start
-  lists = forward_nodes start.requires.swept (lower start) higher
+  counted : x.exclusive_positions-positions.result ≡ exclusive_at x.args.sheet.now x.args.n x.loop-u.u
+  counted = count_is x.requires.nodes (degree node).0 x.loop-u.invariant.0 (degree node).1 x.exclusive_positions-positions.ensures
 
-pub forward_nodes-at-requires : goal.forward_nodes-at-requires
-forward_nodes-at-requires c =
-    let x = (goal.at.forward_nodes-at-requires c).After-edges_by-higher in let q = start x in
-    let w = q.requires.swept in
-    record { rows = lower_rows w (lower q) (higher x); rows_2 = higher_rows w (lower q) (higher x); nodes = nodes_inside w; room = room_as (ap length (sym (lists x))) (room_left (nodes q) rounding (room q)) }
+  room : Room x.loop-u.w (length (edges ++ to_labels x.loop-u.u (range 0 (exclusive_at x.args.sheet.now x.args.n x.loop-u.u))))
+  room = turns_room x.loop-u.invariant.1 (onward_more (degree node).0) x.requires.room
 
-pub put-requires : goal.put-requires
-unfolding rounding
-put-requires c =
-    let x = (goal.at.put-requires c).After-edges_by-higher in let q = start x in
-    record { room = room_right (nodes q) rounding (writing_for (lists x) c.forward_nodes-at.ensures) (room q); node_bound = (omega arith, omega arith, omega arith) }
+  size : length (edges ++ to_labels x.loop-u.u (range 0 (exclusive_at x.args.sheet.now x.args.n x.loop-u.u))) ≡ length edges + x.exclusive_positions-positions.result
+  size =
+      let k = exclusive_at x.args.sheet.now x.args.n x.loop-u.u in
+      omega (arith, counted, length-append edges (to_labels x.loop-u.u (range 0 k)), length-to_labels x.loop-u.u k)
+
+pub loop-u-init : goal.loop-u-init
+loop-u-init c =
+    let a = c.args in
+    (omega (arith, offset_none (byte a.sheet.now)), turns_start (forward_of a.sheet.now a.n a.lower.now a.higher.now) a.w.now (onward_start a.n))
+
+pub overflow_add-past : goal.overflow_add-past
+overflow_add-past c = omega (arith, inside c)
+
+pub exclusive_positions-positions-requires : goal.exclusive_positions-positions-requires
+exclusive_positions-positions-requires c = inside c
+
+pub pass-requires-clause-room : goal.pass-requires-clause-room
+pass-requires-clause-room c =
+    let x = (goal.at.pass-requires-clause-room c).After-exclusive_positions-positions in
+    room_for _ (room x) (omega (arith, size x, length-passed c.args.lower.now c.args.higher.now 1 c.loop-u.u))
+
+pub to_labels-requires-clause-room : goal.to_labels-requires-clause-room
+to_labels-requires-clause-room c =
+    let x = (goal.at.to_labels-requires-clause-room c).After-exclusive_positions-positions in
+    room_left c.pass.ensures c.exclusive_positions-positions.result (room x) (omega (arith, size x))
+
+pub loop-u-preserved : goal.loop-u-preserved
+loop-u-preserved c =
+    let x = (goal.at.loop-u-preserved c).After-exclusive_positions-positions in
+    let d = degree (node x) in
+    let e = ap (λ (k : ℕ). edges x ++ to_labels c.loop-u.u (range 0 k)) (counted x) in
+    (past_more c.requires.nodes d.0 c.loop-u.invariant.0 d.1, turns_more c.loop-u.invariant.1 (onward_more d.0) (wrote_as (wrote_append c.pass.ensures c.to_labels.ensures) e))
 
 pub returns : goal.returns
-unfolding forward rounding
 returns c =
-    let x = (goal.at.returns c).After-edges_by-higher in let q = start x in
-    wrote_all (nodes q ++ rounding) (wrote_append (nodes q) rounding (writing_for (lists x) c.forward_nodes-at.ensures) c.put.ensures) q.requires.out_len
+    let n = length-take-le c.args.n c.args.sheet.now (omega (arith, c.requires.nodes.inside)) in
+    turns_end c.loop-u.invariant.1 (onward_end (omega (arith, c.loop-u-test.false)))

@@ -1,36 +1,28 @@
 -- `write_sweep` meets its contract: refused, nothing is altered; else the buffer holds the sweep.
-use mathlib.Core.Path.{◌≡◌, sym, ap, ◌∙◌}
+use mathlib.Core.Path.{◌≡◌, refl, sym, ap, ◌∙◌}
 use mathlib.Core.Bool.{true}
 use mathlib.Core.List.{List}
 use Prim.Native.Nat.{ℕ}
 use native.Mathlib.Omega.{arith}
 use lib.ListN.{length}
+use borrow.Author.Rules.{rules}
 use Rattle.instance.specs.Sheet.{instance_of, refusal_of}
 use Rattle.instance.proofs.Readable.{readable}
 use Rattle.instance.proofs.LaidOut.{refusal_is}
-use Rattle.index.specs.Index.{Indexed}
 use Rattle.schedule.specs.Sweep.{bytes, sweep, known, sweep_length}
-use Rattle.schedule.specs.Written.{written, sweep_of}
-use Rattle.schedule.specs.Writing.{Swept}
+use Rattle.schedule.specs.Written.{written}
+use Rattle.schedule.specs.Writing.{Swept, direction_number}
 use Rattle.schedule.proofs.Lengths.{sweep-length}
-use Rattle.schedule.proofs.Written.{known_yes, known_no, forward_is, backward_is, unread, unknown, unfit, swept}
-use Rattle.schedule.proofs.IndexedSheet.{handed, lower_indexed}
+use Rattle.schedule.proofs.Written.{direction_known, direction_unknown, unread, unknown, unfit, swept}
+use Rattle.schedule.proofs.WritingLaws.{length-bytes, wrote_all}
+use Rattle.schedule.proofs.IndexedSheet.{handed}
 use Rattle.schedule.proofs.sweep.write_sweep.Goals as goal
-use Rattle.schedule.proofs.sweep.write_sweep.Goals.{After-counts_of-counts, After-edges_by-lower, Else-layout-ne-NONE, Start}
+use Rattle.schedule.proofs.sweep.write_sweep.Goals.{After-counts_of-counts, Else-layout-ne-NONE}
 
 -- past the first test: the sheet is readable
 module _ (p : Else-layout-ne-NONE) where
-  abbrev start : Start
-  start = (goal.at.Else-layout-ne-NONE p).Start
-
   abbrev s : List ℕ
-  s = start.args.sheet.now
-
-  abbrev out : List ℕ
-  out = start.args.out.now
-
-  abbrev direction : ℕ
-  direction = start.args.direction
+  s = p.args.sheet.now
 
   unrefused : refusal_of s ≡ 0
   unrefused = sym (refusal_is s p.read-layout.ensures) ∙ p.if-layout-ne-NONE.false
@@ -44,10 +36,10 @@ module _ (k : After-counts_of-counts) where
   read = (goal.at.After-counts_of-counts k).Else-layout-ne-NONE
 
   counted : Swept (s read) k.counts_of-counts.result
-  counted = handed (s read) read.read-layout.ensures read.if-layout-ne-NONE.false k.counts_of-counts.ensures
+  counted = handed (s read) k.read-layout.ensures k.if-layout-ne-NONE.false k.counts_of-counts.ensures
 
-  named : known (direction read) ≡ true
-  named = known_yes (direction read) (omega (arith, k.if-direction-gt1.false))
+  named : (known k.args.direction ≡ true) × (k.args.direction ≡ direction_number k.in-Some.direction)
+  named = direction_known k.args.direction k.in-Some.ensures
 
 pub returns-then-layout-ne-NONE : goal.returns-then-layout-ne-NONE
 returns-then-layout-ne-NONE c =
@@ -55,9 +47,10 @@ returns-then-layout-ne-NONE c =
     let n = refusal_is a.sheet.now c.read-layout.ensures in
     ap (written a.out.now) n ∙ unread a.sheet.now a.direction a.out.now (λ z. c.if-layout-ne-NONE.true (n ∙ z))
 
-pub returns-then-direction-gt1 : goal.returns-then-direction-gt1
-returns-then-direction-gt1 c =
-    let p = (goal.at.returns-then-direction-gt1 c).Else-layout-ne-NONE in unknown (s p) (direction p) (out p) (unrefused p) (known_no (direction p) (omega (arith, c.if-direction-gt1.true)))
+pub returns-in_default : goal.returns-in_default
+returns-in_default c =
+    let p = (goal.at.returns-in_default c).Else-layout-ne-NONE in
+    unknown (s p) c.args.direction c.args.out.now (unrefused p) (direction_unknown c.args.direction (sym c.in_default.is ∙ c.direction_of.ensures))
 
 pub length_of-requires : goal.length_of-requires
 length_of-requires c = counted c
@@ -65,42 +58,22 @@ length_of-requires c = counted c
 pub returns-then-out-length_of : goal.returns-then-out-length_of
 returns-then-out-length_of c =
     let k = (goal.at.returns-then-out-length_of c).After-counts_of-counts in let p = read k in
-    unfit (s p) (direction p) (out p) (unrefused p) (named k) (λ z. c.if-out-length_of.true (z ∙ sym c.length_of.ensures))
+    unfit (s p) c.args.direction c.args.out.now (unrefused p) (named k).0 (λ z. c.if-out-length_of.true (z ∙ sym c.length_of.ensures))
 
-pub edges_by-lower-requires : goal.edges_by-lower-requires
-edges_by-lower-requires c =
-    record { swept = counted (goal.at.edges_by-lower-requires c).After-counts_of-counts; end_bound = omega arith }
+pub whole-requires-clause-swept : goal.whole-requires-clause-swept
+whole-requires-clause-swept c = counted (goal.at.whole-requires-clause-swept c).After-counts_of-counts
 
--- the edges by their higher ends, and the buffer
-module _ (x : After-edges_by-lower) where
-  abbrev k : After-counts_of-counts
-  k = (goal.at.After-edges_by-lower x).After-counts_of-counts
-
-  abbrev p : Else-layout-ne-NONE
-  p = read k
-
-  lower : Indexed (instance_of (s p)).high (instance_of (s p)).edge_count x.edges_by-lower.result
-  lower = lower_indexed (counted k) x.edges_by-lower.ensures
-
-  fit : length (out p) ≡ sweep_length (instance_of (s p))
-  fit = x.if-out-length_of.false ∙ x.length_of.ensures
-
-  -- the sweep in it
-  filled : {l : List ℕ} → l ≡ bytes (sweep (instance_of (s p)) (direction p)) → written l 0 ≡ sweep_of (s p) (direction p) (out p)
-  filled e = ap (λ (l : List ℕ). written l 0) e ∙ swept (s p) (direction p) (out p) (unrefused p) (named k) fit
-
-pub forward-requires : goal.forward-requires
-forward-requires c =
-    let x = (goal.at.forward-requires c).After-edges_by-lower in record { swept = counted (k x); indexed = lower x; out_len = fit x ∙ sym (long (p x) (direction (p x))) ∙ ap (λ l. length (bytes l)) (forward_is (instance_of (s (p x))) c.if-direction-eq0.true) }
-
-pub returns-then-direction-eq0 : goal.returns-then-direction-eq0
-returns-then-direction-eq0 c =
-    let x = (goal.at.returns-then-direction-eq0 c).After-edges_by-lower in filled x (c.forward.ensures ∙ ap bytes (sym (forward_is (instance_of (s (p x))) c.if-direction-eq0.true)))
-
-pub backward-requires : goal.backward-requires
-backward-requires c =
-    let x = (goal.at.backward-requires c).After-edges_by-lower in record { swept = counted (k x); indexed = lower x; out_len = fit x ∙ sym (long (p x) (direction (p x))) ∙ ap (λ l. length (bytes l)) (backward_is (instance_of (s (p x))) c.if-direction-eq0.false) }
+pub whole-requires-clause-room : goal.whole-requires-clause-room
+whole-requires-clause-room c =
+    let k = (goal.at.whole-requires-clause-room c).After-counts_of-counts in let p = read k in
+    let d = direction_number c.in-Some.direction in
+    record { fits = omega (arith, c.if-out-length_of.false, c.length_of.ensures, long p d, length-bytes (sweep (instance_of (s p)) d)) }
 
 pub returns : goal.returns
 returns c =
-    let x = (goal.at.returns c).After-edges_by-lower in filled x (c.backward.ensures ∙ ap bytes (sym (backward_is (instance_of (s (p x))) c.if-direction-eq0.false)))
+    let k = (goal.at.returns c).After-counts_of-counts in let p = read k in
+    let fit = c.if-out-length_of.false ∙ c.length_of.ensures in
+    let d = direction_number c.in-Some.direction in
+    let e : c.whole.new.w.out.now ≡ bytes (sweep (instance_of (s p)) c.args.direction) =
+    wrote_all c.whole.ensures refl (fit ∙ sym (long p d)) ∙ ap (λ (n : ℕ). bytes (sweep (instance_of (s p)) n)) (sym (named k).1) in
+    ap (λ (l : List ℕ). written l 0) (search rules ∙ e) ∙ swept (s p) c.args.direction c.args.out.now (unrefused p) (named k).0 fit

@@ -1,0 +1,28 @@
+-- A row of an index is a part of it.
+-- Assumes nothing.
+use mathlib.Core.Path.{◌≡◌, sym, ap, ◌∙◌}
+use mathlib.Core.List.{List, map}
+use Prim.Native.Nat.{ℕ, ◌+◌, ◌-◌, ◌*◌, ◌≤◌, ◌<◌}
+use native.Mathlib.Omega.{arith}
+use lib.ListN.{length, get_or, take, drop}
+use Rattle.integers.specs.Places.{range}
+use Rattle.integers.proofs.Places.{get_or-range}
+use Rattle.integers.proofs.Ranges.{range-part}
+use Rattle.index.specs.Index.{many, held}
+use Rattle.index.proofs.Indexed.{length-held}
+use Rattle.schedule.specs.Writing.{Rows}
+
+pub row_is : (index : List ℕ) (l n : ℕ) → n ≡ many index l → 65 * l + 1 + n ≤ length index → take (65 * l + 1 + n - (65 * l + 1)) (drop (65 * l + 1) index) ≡ held index l
+row_is index l n e h =
+    let a = 65 * l + 1 in
+    let d : a + n - a ≡ n = omega arith in
+    ap (λ (m : ℕ). take m (drop a index)) d ∙ sym (range-part index 0 a n h) ∙ ap (λ (m : ℕ). map (λ p. get_or index p 0) (range a m)) e
+
+pub row_long : (index : List ℕ) (l : ℕ) {r : List ℕ} → r ≡ held index l → length r ≡ many index l
+row_long index l e = ap length e ∙ length-held index l
+
+-- a thing of a row
+pub row_inside : {index : List ℕ} {bound : ℕ} (l : ℕ) {r : List ℕ} → Rows index bound → r ≡ held index l → l < 64 → (i : ℕ) → i < length r → get_or r i 0 < bound
+row_inside {index} {bound} l {r} x e h i b =
+    let c : i < many index l = omega (arith, row_long index l e) in
+    omega (arith, ap (λ (k : List ℕ). get_or k i 0) e, get_or-range (λ p. get_or index p 0) (65 * l + 1) (many index l) i 0 c, x.inside l i h c)

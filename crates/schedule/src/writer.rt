@@ -1,0 +1,36 @@
+// Writing records one after another.
+
+// The kinds of records, by their numbers.
+#[derive(Clone, Copy)]
+pub(crate) enum Kind {
+    ToEdge = 1,
+    FromEdge = 2,
+    ToLabel = 3,
+    FromLabel = 4,
+    Round = 5,
+}
+
+// A buffer, of which the bytes ahead of `at` are written.
+#[derive(Drop)]
+pub(crate) struct Writer<'a> {
+    pub(crate) out: &'a mut [u8],
+    pub(crate) at: usize,
+}
+
+impl Writer<'_> {
+    ghost use Rattle.std.specs.Prelude.{[], ◌∷◌};
+    ghost use Rattle.schedule.specs.Sweep.{entry};
+    ghost use Rattle.schedule.specs.Writing.{Wrote, Room, kind_number};
+
+    // Writes one record, of five bytes.
+    pub(crate) fn put(&mut self, kind: Kind, node: u8, index: u16, share: u8)
+        requires { Room self.old 1 }
+        ensures { Wrote self.old (entry (kind_number kind) node index share ∷ []) self.new }
+    {
+        let [low, high] = index.to_le_bytes();
+        let at = self.at;
+        let next = at + 5;
+        self.out[at..next].copy_from_slice(&[kind as u8, node, low, high, share]);
+        self.at = next;
+    }
+}
