@@ -1,6 +1,6 @@
 -- Rows of costs as the code goes through them: the least over two parts, a test of each cost, and the range of a cost.
 -- Assumes nothing.
-use Rattle.std.proofs.Common.{◌≡◌, ℕ, zero, suc, ◌^◌, ◌<◌, ◌≤◌, Bool, true, false, T, List, [], ◌∷◌, length, get_or, ℤ, pos, negsuc, ◌-ℤ◌, neg_ℤ, nat_abs, ◌≤ℤ◌, ◌<ℤ◌, sym, refl, ap, ◌∙◌, ap₂, not-suc-le-zero, arith, to_z-of_z, w64, Fits, SFits, to_z, of_z}
+use Rattle.std.proofs.Common.{◌≡◌, ℕ, zero, suc, ◌^◌, ◌<◌, ◌≤◌, Bool, true, false, T, List, [], ◌∷◌, length, get_or, ℤ, pos, negsuc, ◌+ℤ◌, ◌-ℤ◌, neg_ℤ, nat_abs, ◌≤ℤ◌, ◌<ℤ◌, sym, refl, ap, ◌∙◌, ap₂, not-suc-le-zero, arith, to_z-of_z, w64, Fits, SFits, to_z, of_z}
 use lib.Signed.{non_neg}
 use Rattle.std.specs.Int.{int_min}
 use Rattle.std.proofs.Common.{int_lt}
@@ -10,7 +10,7 @@ use Rattle.integers.specs.Share.{nearest, share, amount}
 use Rattle.integers.specs.Sum.{Within}
 use Rattle.integers.specs.Places.{every}
 use Rattle.integers.specs.Checks.{below, within}
-use Rattle.integers.proofs.Parts.{linear, abs, sub, neg}
+use Rattle.integers.proofs.Parts.{linear, abs, add, sub, neg}
 use Rattle.integers.proofs.Bits.{low}
 use Rattle.integers.proofs.Share.{nearest_le, share-pos}
 use Rattle.integers.proofs.Places.{by-test, both_ways, if-true, if-false, and_true}
@@ -86,6 +86,20 @@ module _ (x y : ℤ) (h : nat_abs x ≤ cost_limit) (g : nat_abs y ≤ cost_limi
 
   pub difference_is : to_z w64 (of_z w64 difference) ≡ x -ℤ y
   difference_is = to_z-of_z difference_fits ∙ ap₂ ◌-ℤ◌ (to_z-of_z (cost_fits x h)) (to_z-of_z (cost_fits y g))
+
+-- the code's sum of a cost and what it receives, read back
+module _ (x y : ℤ) (h : nat_abs x ≤ cost_limit) (g : nat_abs y ≤ 2 ^ 41) where
+  abbrev x_fits : SFits w64 x
+  x_fits = cost_fits x h
+
+  abbrev y_fits : SFits w64 y
+  y_fits = omega (linear, abs y)
+
+  pub sum_fits : SFits w64 (to_z w64 (of_z w64 x) +ℤ to_z w64 (of_z w64 y))
+  sum_fits = rw (to_z-of_z x_fits, to_z-of_z y_fits) (omega (linear, add x y, abs x, abs y))
+
+  pub sum_is : to_z w64 (of_z w64 (to_z w64 (of_z w64 x) +ℤ to_z w64 (of_z w64 y))) ≡ x +ℤ y
+  sum_is = to_z-of_z sum_fits ∙ ap₂ ◌+ℤ◌ (to_z-of_z x_fits) (to_z-of_z y_fits)
 
 -- the share of a distance below 0, by its size
 pub share_below : (d : ℤ) (r : ℕ) → d <ℤ pos 0 → share d r ≡ neg_ℤ (pos (nearest (nat_abs d) r))
