@@ -1,16 +1,18 @@
 // Messages between one node's costs and one edge's table: what is given, whether both stay within the limit, and the moves. Document 01, kinds 1 and 2.
-ghost use Rattle.std.specs.Prelude.{◌≡◌, ℕ, ◌^◌, ◌<◌, ◌≤◌, false, cond, length, get_or, replicate, pos, ◌+ℤ◌, ◌<ℤ◌, nat_lt, slice_index_or, unsigned_abs};
-ghost use Rattle.integers.specs.Least.{least_from, without};
+ghost use Rattle.std.specs.Prelude.{◌≡◌, ℕ, ◌^◌, ◌<◌, ◌≤◌, false, cond, length, IfSome, get_or, replicate, pos, ◌+ℤ◌, ◌<ℤ◌, nat_lt, slice_index_or, unsigned_abs};
+ghost use Rattle.integers.specs.Least.{least_from};
 ghost use Rattle.integers.specs.Sum.{Within};
 ghost use Rattle.integers.specs.Places.{every, tabulate};
 ghost use Rattle.integers.specs.Checks.{within};
 ghost use Rattle.integers.proofs.Ranges.{shifted};
 ghost use Rattle.std.specs.Int.{w64};
 ghost use Rattle.rules.specs.Calls.{cost_limit};
-ghost use Rattle.messages.specs.EdgeMessage.{node_amounts, edge_amounts, taken_of, moved_cells, moved_line, Shape, Ends, over, line_at, unbounded, least_at, turned_least};
+ghost use Rattle.messages.specs.EdgeMessage.{node_amounts, edge_amounts, taken_of, moved_cells, moved_line, Shape, Ends, over, line_at, left_of, unbounded, least_at, turned_least};
 
 use crate::clash::{clash, mask_of};
-use crate::rows::{OUT, UNBOUNDED, all_half, excess, least_but, least_of, less_at, share_of};
+use crate::rows::{
+    OUT, UNBOUNDED, all_half, excess, least, least_but, least_of, less_at, share_of,
+};
 
 // What the least of a position gives down to the least of all, turned round, and 0 if it has no usable cell.
 fn turned_least(cost: i64, low: i64, r: u8) -> i64
@@ -52,30 +54,49 @@ fn turn_all(least: &mut [i64], low: i64, share: u8)
 }
 
 // The least of the column `k` of an edge's table but for its row `skip`, if there is one.
-fn column_low(cells: &[i64], width: usize, height: usize, k: usize, skip: usize) -> i64
+fn column_low(cells: &[i64], width: usize, height: usize, k: usize, skip: Option<usize>) -> i64
     requires shape { Shape width height cells.now }
     requires k_lt_width { k < width }
-    ensures { result ≡ least_from unbounded (without (line_at false width height cells.now k) skip) }
+    ensures { result ≡ least_from unbounded (left_of (line_at false width height cells.now k) skip) }
 {
     let mut best = UNBOUNDED;
     for r in 0..height {
-        if r != skip {
+        if Some(r) != skip {
             best = less_at(cells, r * width + k, best);
         }
     }
     best
 }
 
+// The least of a row but for the cell at `skip`, if there is one.
+fn row_low(row: &[i64], skip: Option<usize>) -> i64
+    requires { IfSome skip (λ s. s < length row.now) }
+    ensures { result ≡ least_from unbounded (left_of row.now skip) }
+{
+    match skip {
+        Some(skip) => least_but(row, skip, UNBOUNDED),
+        None => least(row, UNBOUNDED),
+    }
+}
+
 // The least of the cells with an edge's end at its position `k`, but for the one at `skip`: of the lower end a row, of the higher a column.
-fn low_at(cells: &[i64], width: usize, height: usize, by_row: bool, k: usize, skip: usize) -> i64
+fn low_at(
+    cells: &[i64],
+    width: usize,
+    height: usize,
+    by_row: bool,
+    k: usize,
+    skip: Option<usize>,
+) -> i64
     requires shape { Shape width height cells.now }
     requires k_bound { k < cond by_row height width }
-    ensures { result ≡ least_from unbounded (without (line_at by_row width height cells.now k) skip) }
+    requires skip_bound { IfSome skip (λ s. s < cond by_row width height) }
+    ensures { result ≡ least_from unbounded (left_of (line_at by_row width height cells.now k) skip) }
 {
     if by_row {
         let a = k * width;
         let b = a + width;
-        least_but(&cells[a..b], skip, UNBOUNDED)
+        row_low(&cells[a..b], skip)
     } else {
         column_low(cells, width, height, k, skip)
     }

@@ -71,15 +71,14 @@ pub(crate) fn least(row: &[i64], start: i64) -> i64
 }
 
 // Above every cost: the least of no costs.
+// Kept: a minimum starts from it; as an `Option` each cost would first ask whether there is a least so far.
 pub(crate) const UNBOUNDED: i64 = 0x7FFF_FFFF_FFFF_FFFF;
 
-// The least of `start` and the costs of a row but for the one at `skip`, if there is one.
+// The least of `start` and the costs of a row but for the one at `skip`.
 pub(crate) fn least_but(row: &[i64], skip: usize, start: i64) -> i64
+    requires { skip < length row.now }
     ensures { result ≡ least_from start (without row.now skip) }
 {
-    if row.len() <= skip {
-        return least(row, start);
-    }
     let next = skip + 1;
     least(&row[next..], least(&row[..skip], start))
 }

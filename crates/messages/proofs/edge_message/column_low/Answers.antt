@@ -1,5 +1,5 @@
 -- `column_low` meets its contract. The loop's invariant: `best` is the column's least over the first r rows but for `skip`.
-use Rattle.std.proofs.Common.{◌≡◌, ℕ, ◌+◌, ◌*◌, ◌<◌, ◌≤◌, length, get_or, ℤ, pos, ap, ◌∙◌, ap₂, mul_comm, arith}
+use Rattle.std.proofs.Common.{◌≡◌, ℕ, ◌+◌, ◌*◌, ◌<◌, ◌≤◌, length, get_or, ℤ, pos, sym, ap, ◌∙◌, ap₂, mul_comm, arith}
 use Rattle.integers.specs.Least.{min_ℤ}
 use Rattle.integers.proofs.Bits.{answer}
 use Rattle.messages.specs.EdgeMessage.{unbounded}
@@ -7,7 +7,7 @@ use Rattle.messages.proofs.EdgeLaws.{cell_in}
 use Rattle.messages.proofs.UsableLaws.{least_but, but_none, but_skipped, but_more, but_all}
 use Rattle.messages.proofs.edge_message.column_low.Goals as goal
 use Rattle.messages.proofs.edge_message.column_low.Invariants.{column}
-use Rattle.messages.proofs.edge_message.column_low.Goals.{then-r-skip, else-r-skip}
+use Rattle.messages.proofs.edge_message.column_low.Goals.{then-ne, else-ne}
 
 pub loop-r-preserved : goal.loop-r-preserved
 loop-r-preserved c =
@@ -16,10 +16,10 @@ loop-r-preserved c =
     let r = c.loop-r.r in
     let f = column l x.width x.k in
     let e : r * x.width + x.k ≡ x.width * r + x.k = ap (λ (n : ℕ). n + x.k) (mul_comm r x.width) in
-    elim c.if-r-skip.branch [
-      | then-r-skip w ↦ w.best-is ∙ answer w.less_at-best.type_inv w.less_at-best.ensures ∙ ap₂ (λ (i : ℕ) (b : ℤ). min_ℤ (get_or l i (pos 0)) b) e c.loop-r.invariant
-          ∙ but_more f unbounded x.skip r w.if-r-skip.true
-      | else-r-skip w ↦ w.best-is ∙ c.loop-r.invariant ∙ but_skipped f unbounded x.skip r w.if-r-skip.false
+    elim c.if-ne.branch [
+      | then-ne w ↦ w.best-is ∙ answer w.less_at-best.type_inv w.less_at-best.ensures ∙ ap₂ (λ (i : ℕ) (b : ℤ). min_ℤ (get_or l i (pos 0)) b) e c.loop-r.invariant
+          ∙ but_more f unbounded x.skip r (sym c.ne.ensures ∙ w.if-ne.true)
+      | else-ne w ↦ w.best-is ∙ c.loop-r.invariant ∙ but_skipped f unbounded x.skip r (sym c.ne.ensures ∙ w.if-ne.false)
     ]
 
 pub returns : goal.returns
