@@ -1,8 +1,9 @@
 -- Where a label meets an unusable cell among the labels of a node, which rise, and what a mask of them says.
 -- Assumes nothing.
-use Rattle.std.proofs.Common.{◌≡◌, ℕ, ◌+◌, ◌%◌, ◌^◌, ◌<◌, ◌≤◌, true, false, not, eqb, ltb, List, length, get_or, sym, ap, ◌∙◌, arith, ltb-false, ltb-true, ne_eqb, eqb-true}
+use Rattle.std.proofs.Common.{◌≡◌, ℕ, ◌+◌, ◌%◌, ◌^◌, ◌<◌, ◌≤◌, true, false, not, eqb, ltb, Option, None, Some, MatchOption, List, length, get_or, sym, ap, ◌∙◌, arith, rules, ltb-false, ltb-true, ne_eqb, eqb-true}
 use borrow.Author.Tests.{eqb-false}
 use lib.Bits.{bit_and, bit_or}
+use Rattle.std.specs.List.{AllWithin, HoldsAt}
 use Rattle.integers.specs.Words.{bit}
 use Rattle.integers.proofs.Places.{by-test, and_both, left_true, right_true}
 use Rattle.integers.proofs.Counting.{climbs}
@@ -29,14 +30,14 @@ usable_more {labels} {label} {p} u h e =
     }
 
 module _ {labels : List ℕ} {label : ℕ} where
-  pub skips_none : ((p : ℕ) → p < length labels → usable label (get_or labels p 0) ≡ true) → Skips labels label (length labels)
-  skips_none u = record { inside = omega arith; passed = λ p k. u p k ∙ sym (ap not (ne_eqb p (length labels) (λ e. omega arith))) }
+  pub skips_none : ((p : ℕ) → p < length labels → usable label (get_or labels p 0) ≡ true) → Skips labels label None
+  skips_none u = record { inside = search rules; passed = u }
 
   -- an unusable cell has the label, which stands at one place
-  pub skips_here : {at : ℕ} → Rising labels → at < length labels → usable label (get_or labels at 0) ≡ false → Skips labels label at
+  pub skips_here : {at : ℕ} → Rising labels → at < length labels → usable label (get_or labels at 0) ≡ false → Skips labels label (Some at)
   skips_here {at} r h u =
       record {
-        inside = omega arith;
+        inside = h;
         passed = λ p k. by-test (eqb p at) (λ z. ap (λ (i : ℕ). usable label (get_or labels i 0)) (eqb-true p at z) ∙ u ∙ sym (ap not z))
             (λ z. distinct_usable label (get_or labels p 0) (λ e. apart p k (eqb-false p at z) (sym e ∙ here)) ∙ sym (ap not z));
       }
@@ -51,6 +52,18 @@ module _ {labels : List ℕ} {label : ℕ} where
       apart p k n e =
           by-test (ltb p at) (λ t. let s = climbs (λ i. get_or labels i 0) (length labels) r p at (ltb-true p at t) h in omega arith)
           (λ t. let l : at ≤ p = ltb-false p at t in let s = climbs (λ i. get_or labels i 0) (length labels) r at p (omega arith) k in omega arith)
+
+-- by what a search for the first unusable cell finds
+pub skips_found : {labels : List ℕ} {label : ℕ} → Rising labels → (skip : Option ℕ)
+    → MatchOption skip (AllWithin (λ l. usable label l ≡ true) labels 0 (length labels))
+    (λ p. (p < length labels) × HoldsAt (λ l. usable label l ≡ false) labels p × AllWithin (λ l. usable label l ≡ true) labels 0 p)
+    → Skips labels label skip
+skips_found r None h = skips_none (λ p k. h p 0 (omega arith) k)
+skips_found r (Some p) h = skips_here r h.0 (h.1 0)
+
+-- with none it is as if the place past all labels were skipped
+pub skips_past : {labels : List ℕ} {label : ℕ} → Skips labels label None → (p : ℕ) → p < length labels → usable label (get_or labels p 0) ≡ not (eqb p (length labels))
+skips_past {labels} s p h = s.passed p h ∙ sym (ap not (ne_eqb p (length labels) (λ e. omega arith)))
 
 -- ---- a mask of labels
 
@@ -73,7 +86,7 @@ masked_more {labels} {mask} {p} m h =
     }
 
 -- where it lacks the bit of a label, each cell of the label is usable
-pub masked_out : (labels : List ℕ) (mask : ℕ) → Masks labels mask → (label : ℕ) → bit_and mask (bit_at label) ≡ 0 → Skips labels label (length labels)
+pub masked_out : (labels : List ℕ) (mask : ℕ) → Masks labels mask → (label : ℕ) → bit_and mask (bit_at label) ≡ 0 → Skips labels label None
 masked_out labels mask m label z =
     skips_none (λ p h. distinct_usable label (get_or labels p 0)
     (λ e. let k = label % 64 in

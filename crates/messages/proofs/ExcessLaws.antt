@@ -13,27 +13,6 @@ use Rattle.integers.proofs.Checks.{within_le, le_within}
 use Rattle.rules.specs.Calls.{cost_limit}
 use Rattle.messages.proofs.OverLaws.{every_made}
 
--- ---- the bits of a cost
-
-pub flipped : (z : ℤ) → z <ℤ pos 0 → (negsuc 0 -ℤ z) ≡ pos (nat_abs z - 1)
-flipped z h = omega (linear, sub (negsuc 0) z, abs z, apart z)
-
-pub flip_fits : (z : ℤ) → SFits w64 z → z <ℤ pos 0 → SFits w64 (negsuc 0 -ℤ z)
-flip_fits z f h = omega (linear, sub (negsuc 0) z, apart (negsuc 0 -ℤ z), range f)
-
-pub bits_below : (z : ℤ) → z <ℤ pos 0 → 2 ^ 64 - 1 - (nat_abs z - 1) ≡ of_z w64 z
-bits_below (pos n) h = absurd (omega linear)
-bits_below (negsuc n) h = omega arith
-
-pub bits_above : (z : ℤ) → pos 0 ≤ℤ z → nat_abs z ≡ of_z w64 z
-bits_above (pos n) h = refl
-bits_above (negsuc n) h = absurd (omega linear)
-
--- 0 less the bits of a cost below 0 is its size
-pub bits_size : (z : ℤ) → SFits w64 z → z <ℤ pos 0 → (y : ℕ) → y < 2 ^ 64 → (y + of_z w64 z) % 2 ^ 64 ≡ 0 → y ≡ nat_abs z
-bits_size (pos n) f h y g e = absurd (omega linear)
-bits_size (negsuc n) f h y g e = omega linear
-
 -- ---- the test
 
 -- two joined are no less than each, and below the half exactly if both are
@@ -48,20 +27,26 @@ joined a b =
     lt-ltb (bit_or a b) (2 ^ 63) (or_lt 63 a b (ltb-true a (2 ^ 63) p) (ltb-true b (2 ^ 63) q)))
 
 -- the two sums that wrap: the one is past the half below the range, the other above it
-module _ {limit : ℕ} (m : limit ≤ cost_limit) {x y : ℕ} (h : y < 2 ^ 64) where
-  sums_low : (z : ℤ) → SFits w64 z → x ≡ (of_z w64 z + limit) % 2 ^ 64 → (y + of_z w64 z) % 2 ^ 64 ≡ limit → nat_abs z ≤ limit → (x < 2 ^ 63) × (y < 2 ^ 63)
-  sums_low (pos n) f e g k = (omega linear, omega linear)
-  sums_low (negsuc n) f e g k = (omega linear, omega linear)
+module _ {limit : ℕ} (m : limit ≤ cost_limit) where
+  abbrev up : ℤ → ℕ
+  up z = (of_z w64 z + limit) % 2 ^ 64
 
-  sums_high : (z : ℤ) → SFits w64 z → x ≡ (of_z w64 z + limit) % 2 ^ 64 → (y + of_z w64 z) % 2 ^ 64 ≡ limit → x < 2 ^ 63 → y < 2 ^ 63 → nat_abs z ≤ limit
-  sums_high (pos n) f e g j k = omega linear
-  sums_high (negsuc n) f e g j k = omega linear
+  abbrev down : ℤ → ℕ
+  down z = (limit + (2 ^ 64 - of_z w64 z)) % 2 ^ 64
 
-  pub apart_limit : (z : ℤ) → SFits w64 z → x ≡ (of_z w64 z + limit) % 2 ^ 64 → (y + of_z w64 z) % 2 ^ 64 ≡ limit → ltb (bit_or x y) (2 ^ 63) ≡ within limit z
-  apart_limit z f e g =
-      both_ways (ltb (bit_or x y) (2 ^ 63)) (within limit z)
-      (λ t. let j = ltb-true (bit_or x y) (2 ^ 63) t in le_within limit z (sums_high z f e g (omega (arith, or_le x y)) (omega (arith, or_le x y))))
-      (λ t. let (j, k) = sums_low z f e g (within_le limit z t) in lt-ltb (bit_or x y) (2 ^ 63) (or_lt 63 x y j k))
+  sums_low : (z : ℤ) → SFits w64 z → nat_abs z ≤ limit → (up z < 2 ^ 63) × (down z < 2 ^ 63)
+  sums_low (pos n) f k = (omega linear, omega linear)
+  sums_low (negsuc n) f k = (omega linear, omega linear)
+
+  sums_high : (z : ℤ) → SFits w64 z → up z < 2 ^ 63 → down z < 2 ^ 63 → nat_abs z ≤ limit
+  sums_high (pos n) f j k = omega linear
+  sums_high (negsuc n) f j k = omega linear
+
+  pub apart_limit : (z : ℤ) → SFits w64 z → ltb (bit_or (up z) (down z)) (2 ^ 63) ≡ within limit z
+  apart_limit z f =
+      both_ways (ltb (bit_or (up z) (down z)) (2 ^ 63)) (within limit z)
+      (λ t. let j = ltb-true (bit_or (up z) (down z)) (2 ^ 63) t in le_within limit z (sums_high z f (omega (arith, or_le (up z) (down z))) (omega (arith, or_le (up z) (down z)))))
+      (λ t. let (j, k) = sums_low z f (within_le limit z t) in lt-ltb (bit_or (up z) (down z)) (2 ^ 63) (or_lt 63 (up z) (down z) j k))
 
 -- ---- a loop that joins what each place gives
 

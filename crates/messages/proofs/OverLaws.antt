@@ -78,6 +78,12 @@ pub over_full : (f : ℕ → ℤ) (l : List ℤ) → over f (length l) l ≡ tab
 unfolding over
 over_full f l = ap (λ (t : List ℤ). tabulate (length l) f ++ t) (drop-length l) ∙ append-nil (tabulate (length l) f)
 
+-- a part from the front written anew
+pub over_front : (f g : ℕ → ℤ) {m n : ℕ} (l : List ℤ) → m ≡ n → ((k : ℕ) → k < n → f k ≡ g k) → tabulate m f ++ drop n l ≡ over g n l
+unfolding over tabulate
+over_front f g {m} {n} l q e =
+    ap (λ (t : List ℤ). t ++ drop n l) (ap (λ (k : ℕ). map f (range 0 k)) q ∙ map-ext f g (range 0 n) (λ k m. let r = range_mem 0 n m in e k (omega arith)))
+
 -- from zeros: a table of which the rest is 0
 pub over_zeros : (f g : ℕ → ℤ) (m n : ℕ) → n ≤ m → ((k : ℕ) → k < n → f k ≡ g k) → ((k : ℕ) → k < m → n ≤ k → pos 0 ≡ g k) → over f n (replicate m (pos 0)) ≡ tabulate m g
 over_zeros f g m n h p q =
@@ -127,10 +133,6 @@ abbrev pub Raised : (ℕ → ℤ) → List ℤ → ℕ → List ℤ → Type 0
 Raised a m k l = Overwritten (λ j. get_or m j (pos 0) +ℤ a j) (length m) m k l
 
 module _ (a : ℕ → ℤ) {m : List ℤ} {k : ℕ} {l : List ℤ} (w : Raised a m k l) where
-  -- such a sum fits
-  pub raised_fits : Within cost_limit m → (x : ℤ) → nat_abs x ≤ 2 ^ 41 → SFits w64 (get_or l k (pos 0) +ℤ x)
-  raised_fits h x g = let y = get_or m k (pos 0) in rw (written_next w) (omega (linear, add y x, abs y, abs x, h k))
-
   pub raised_more : k < length l → {x : ℤ} → x ≡ a k → {l' : List ℤ} → l' ≡ set l k (get_or l k (pos 0) +ℤ x) → Raised a m (k + 1) l'
   raised_more h e q =
       let r = written_more w (omega (arith, written_length w)) (ap₂ ◌+ℤ◌ (written_next w) e) in

@@ -1,19 +1,29 @@
 -- Rows of costs as the code goes through them: the least over two parts, a test of each cost, and the range of a cost.
 -- Assumes nothing.
-use Rattle.std.proofs.Common.{◌≡◌, ℕ, zero, suc, ◌^◌, ◌<◌, ◌≤◌, Bool, true, false, T, List, [], ◌∷◌, length, get_or, ℤ, pos, ◌-ℤ◌, neg_ℤ, nat_abs, ◌≤ℤ◌, sym, refl, ap, ◌∙◌, ap₂, not-suc-le-zero, arith, to_z-of_z, w64, Fits, SFits, to_z, of_z}
+use Rattle.std.proofs.Common.{◌≡◌, ℕ, zero, suc, ◌^◌, ◌<◌, ◌≤◌, Bool, true, false, T, List, [], ◌∷◌, length, get_or, ℤ, pos, negsuc, ◌+ℤ◌, ◌-ℤ◌, neg_ℤ, nat_abs, ◌≤ℤ◌, ◌<ℤ◌, sym, refl, ap, ◌∙◌, ap₂, not-suc-le-zero, arith, to_z-of_z, w64, Fits, SFits, to_z, of_z}
 use lib.Signed.{non_neg}
+use Rattle.std.specs.Int.{int_min}
+use Rattle.std.proofs.Common.{int_lt}
+use Rattle.integers.proofs.Order.{min_comm, min_eq_left, min_eq_right}
 use Rattle.integers.specs.Least.{min_ℤ, least_from, least_of}
 use Rattle.integers.specs.Share.{nearest, share, amount}
 use Rattle.integers.specs.Sum.{Within}
 use Rattle.integers.specs.Places.{every}
 use Rattle.integers.specs.Checks.{below, within}
-use Rattle.integers.proofs.Parts.{linear, abs, sub, neg}
+use Rattle.integers.proofs.Parts.{linear, abs, add, sub, neg}
 use Rattle.integers.proofs.Bits.{low}
 use Rattle.integers.proofs.Share.{nearest_le, share-pos}
-use Rattle.integers.proofs.Places.{both_ways, and_true}
+use Rattle.integers.proofs.Places.{by-test, both_ways, if-true, if-false, and_true}
 use Rattle.integers.proofs.Checks.{below_at, below_all, below_fails, within_le}
 use Rattle.integers.proofs.Least.{least_min, least_within}
 use Rattle.rules.specs.Calls.{cost_limit}
+
+-- the less of two as the code finds it, in either order
+pub less : (a b : ℤ) → int_min a b ≡ min_ℤ a b
+less a b = by-test (int_lt b a) (λ e. if-true b a e ∙ sym (min_eq_right (omega (linear, e)))) (λ e. if-false b a e ∙ sym (min_eq_left (omega (linear, e))))
+
+pub less_back : (a b : ℤ) → int_min a b ≡ min_ℤ b a
+less_back a b = less a b ∙ min_comm a b
 
 -- two parts in either order
 pub least_parts : (x : ℤ) (a b : List ℤ) → least_from (least_from x b) a ≡ least_from (least_from x a) b
@@ -77,19 +87,25 @@ module _ (x y : ℤ) (h : nat_abs x ≤ cost_limit) (g : nat_abs y ≤ cost_limi
   pub difference_is : to_z w64 (of_z w64 difference) ≡ x -ℤ y
   difference_is = to_z-of_z difference_fits ∙ ap₂ ◌-ℤ◌ (to_z-of_z (cost_fits x h)) (to_z-of_z (cost_fits y g))
 
-  pub size_few : nat_abs (to_z w64 (of_z w64 difference)) ≤ 2 ^ 41
-  size_few = rw difference_is (apart_within x y h g)
+-- the code's sum of a cost and what it receives, read back
+module _ (x y : ℤ) (h : nat_abs x ≤ cost_limit) (g : nat_abs y ≤ 2 ^ 41) where
+  abbrev x_fits : SFits w64 x
+  x_fits = cost_fits x h
 
-  pub size_is : y ≤ℤ x → T (non_neg (to_z w64 (of_z w64 difference))) × Fits w64 (nat_abs (to_z w64 (of_z w64 difference)))
-  size_is o = (rw difference_is (omega (linear, sub x y)), omega (arith, size_few))
+  abbrev y_fits : SFits w64 y
+  y_fits = omega (linear, abs y)
 
-  -- one r-th of that size, where the first is no less than the second
-  module _ (r n : ℕ) (e : n ≡ nearest (nat_abs (to_z w64 (of_z w64 difference))) r) where
-    pub part_few : n ≤ 2 ^ 41
-    part_few = omega (arith, e, nearest_le (nat_abs (to_z w64 (of_z w64 difference))) r, size_few)
+  pub sum_fits : SFits w64 (to_z w64 (of_z w64 x) +ℤ to_z w64 (of_z w64 y))
+  sum_fits = rw (to_z-of_z x_fits, to_z-of_z y_fits) (omega (linear, add x y, abs x, abs y))
 
-    pub part_is : y ≤ℤ x → to_z w64 n ≡ share (x -ℤ y) r
-    part_is o = low w64 n (omega (arith, part_few)) ∙ ap pos (e ∙ ap (λ (z : ℤ). nearest (nat_abs z) r) difference_is) ∙ sym (share-pos (x -ℤ y) r (omega (linear, sub x y)))
+  pub sum_is : to_z w64 (of_z w64 (to_z w64 (of_z w64 x) +ℤ to_z w64 (of_z w64 y))) ≡ x +ℤ y
+  sum_is = to_z-of_z sum_fits ∙ ap₂ ◌+ℤ◌ (to_z-of_z x_fits) (to_z-of_z y_fits)
+
+-- the share of a distance below 0, by its size
+pub share_below : (d : ℤ) (r : ℕ) → d <ℤ pos 0 → share d r ≡ neg_ℤ (pos (nearest (nat_abs d) r))
+unfolding share
+share_below (pos n) r h = absurd (omega linear)
+share_below (negsuc n) r h = refl
 
 -- ---- a cost against the others of its row
 

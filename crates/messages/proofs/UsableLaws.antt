@@ -1,55 +1,58 @@
 -- The usable cells of an edge's table, as the code goes through it by rows and by columns: the least of each position, and what it gives.
 -- Assumes nothing.
-use Rattle.std.proofs.Common.{◌≡◌, ℕ, ◌+◌, ◌-◌, ◌*◌, ◌/◌, ◌%◌, ◌<◌, ◌≤◌, Bool, true, false, cond, not, eqb, List, [], ◌∷◌, map, length, get_or, take, ℤ, pos, ◌-ℤ◌, neg_ℤ, nat_abs, ◌≤ℤ◌, ◌<ℤ◌, sym, refl, ap, ◌∙◌, ap₂, mod-lt, div-lt_iff_lt-mul, arith, eq-eqb, ne_eqb}
+use Rattle.std.proofs.Common.{◌≡◌, ℕ, ◌+◌, ◌-◌, ◌*◌, ◌/◌, ◌%◌, ◌<◌, ◌≤◌, Bool, true, false, cond, not, eqb, Option, None, Some, List, [], ◌∷◌, map, length, get_or, take, ℤ, pos, ◌-ℤ◌, neg_ℤ, nat_abs, ◌≤ℤ◌, ◌<ℤ◌, sym, refl, ap, ◌∙◌, ap₂, mod-lt, div-lt_iff_lt-mul, arith, eq-eqb, ne_eqb}
 use mathlib.Core.List.{map-append, map-map}
 use mathlib.Core.List.{Memᴰ as Mem}
 use lib.Signed.{lt_z}
 use Rattle.integers.specs.Least.{min_ℤ, least_from, least_of, without}
 use Rattle.integers.specs.Share.{share, excess}
 use Rattle.integers.specs.Sum.{Within}
-use Rattle.integers.specs.Places.{tabulate, range, select, others}
+use Rattle.integers.specs.Places.{tabulate, range, select}
 use Rattle.integers.proofs.Parts.{linear, abs}
 use Rattle.integers.proofs.Order.{le_trans, le_antisymm, min_eq_right}
 use Rattle.integers.proofs.Least.{least_min, least_of_lem, least_append, least_ind}
-use Rattle.integers.proofs.Places.{by-test, if-true, mem_range, range_mem, mem_select, select_mem, map-ext, least_mem, le_least_mem, least_of_mem, le_least_of_mem}
-use Rattle.integers.proofs.Ranges.{range-part, select_none, select_comm, select-map, select_but, select_row, select_column}
-use Rattle.integers.proofs.Rows.{within_map}
+use Rattle.integers.proofs.Places.{by-test, if-true, mem_range, range_mem, mem_select, select_mem, map-ext, length-tabulate, least_mem, le_least_mem, least_of_mem, le_least_of_mem}
+use Rattle.integers.proofs.Ranges.{range-part, select_all, select_none, select_comm, select-map, select_but, select_row, select_column}
+use Rattle.integers.proofs.Rows.{within_map, without_past}
 use Rattle.index.proofs.Lists.{select_next, select_past}
 use Rattle.instance.specs.Instance.{usable}
 use Rattle.rules.specs.Calls.{cost_limit}
-use Rattle.messages.specs.Clash.{Skips}
-use Rattle.messages.specs.EdgeMessage.{position_in, width_of, usable_in, usable_of, places_at, usable_cells, cells_at, edge_amounts, Shape, Ends, over, line_at, unbounded, least_at, turned_least}
+use Rattle.messages.specs.Clash.{skipped, Skips}
+use Rattle.messages.specs.EdgeMessage.{position_in, width_of, usable_in, usable_of, places_at, usable_cells, cells_at, edge_amounts, left_of, Shape, Ends, over, line_at, unbounded, least_at, turned_least}
+use Rattle.messages.proofs.ClashLaws.{skips_past}
 use Rattle.messages.proofs.RowLaws.{least_of_within}
 use Rattle.messages.proofs.OverLaws.{over_at, over-take, over_again, over_zeros}
-use Rattle.messages.proofs.EdgeLaws.{zeros, position, row_end}
+use Rattle.messages.proofs.EdgeLaws.{zeros, position, row_end, row-length}
 
 -- ---- the least of b and of f of the first n places but for the one at `skip`, place by place
 
-module _ (f : ℕ → ℤ) (b : ℤ) (skip : ℕ) where
+module _ (f : ℕ → ℤ) (b : ℤ) (skip : Option ℕ) where
+  abbrev stays : ℕ → Bool
+  stays j = not (skipped skip j)
+
   abbrev pub least_but : ℕ → ℤ
-  least_but n = least_from b (map f (others skip (range 0 n)))
+  least_but n = least_from b (map f (select stays (range 0 n)))
 
   pub but_none : b ≡ least_but 0
-  unfolding others select range least_from
+  unfolding select range least_from
   but_none = refl
 
-  pub but_skipped : (n : ℕ) → n ≡ skip → least_but n ≡ least_but (n + 1)
-  unfolding others
-  but_skipped n e = sym (ap (λ (l : List ℕ). least_from b (map f l)) (select_past (λ j. not (eqb j skip)) n (ap not (eq-eqb n skip e))))
+  pub but_skipped : (n : ℕ) → stays n ≡ false → least_but n ≡ least_but (n + 1)
+  but_skipped n e = sym (ap (λ (l : List ℕ). least_from b (map f l)) (select_past stays n e))
 
-  pub but_more : (n : ℕ) → (n ≡ skip → ⊥) → min_ℤ (f n) (least_but n) ≡ least_but (n + 1)
-  unfolding others least_from
+  pub but_more : (n : ℕ) → stays n ≡ true → min_ℤ (f n) (least_but n) ≡ least_but (n + 1)
+  unfolding least_from
   but_more n d =
-      let t : ℕ → Bool = (λ j. not (eqb j skip)) in
-      let l = select t (range 0 n) in
-      sym (ap (λ (k : List ℕ). least_from b (map f k)) (select_next t n (ap not (ne_eqb n skip d))) ∙ ap (least_from b) (map-append f l (n ∷ []))
+      let l = select stays (range 0 n) in
+      sym (ap (λ (k : List ℕ). least_from b (map f k)) (select_next stays n d) ∙ ap (least_from b) (map-append f l (n ∷ []))
       ∙ least_append b (map f l) (f n ∷ []) ∙ least_min (f n) b (map f l))
 
-  pub but_all : (n : ℕ) → least_but n ≡ least_from b (without (tabulate n f) skip)
-  unfolding others tabulate
-  but_all n =
-      let t : ℕ → Bool = (λ j. not (eqb j skip)) in
-      ap (least_from b) (select_but f t 0 n skip (λ j _. let e : 0 + j ≡ j = omega arith in ap t e))
+pub but_all : (f : ℕ → ℤ) (b : ℤ) (skip : Option ℕ) (n : ℕ) → least_but f b skip n ≡ least_from b (left_of (tabulate n f) skip)
+unfolding tabulate
+but_all f b None n = ap (λ (l : List ℕ). least_from b (map f l)) (select_all (λ j. true) (range 0 n) (λ i _. refl))
+but_all f b (Some k) n =
+    let t : ℕ → Bool = (λ j. not (eqb j k)) in
+    ap (least_from b) (select_but f t 0 n k (λ j _. let e : 0 + j ≡ j = omega arith in ap t e))
 
 -- ---- the least of some costs, and of none
 
@@ -83,10 +86,10 @@ picked f t u {n} {m} e q =
     ap (map f) (select_comm t u (range 0 n)) ∙ ap (λ (k : ℕ). map f (select u (select t (range 0 k)))) e ∙ ap (λ (l : List ℕ). map f (select u l)) q
 
 -- the usable ones are all but the one at which the labels clash
-pub line_is : (b : Bool) {own other : List ℕ} {l : List ℤ} → Ends b own other l → (k : ℕ) → k < length own → {skip : ℕ} → Skips other (get_or own k 0) skip
+pub line_is : (b : Bool) {own other : List ℕ} {l : List ℤ} → Ends b own other l → (k : ℕ) → k < length own → (skip : ℕ) → ((p : ℕ) → p < length other → usable (get_or own k 0) (get_or other p 0) ≡ not (eqb p skip))
     → without (line_at b (width_of b own other) (cond b (length own) (length other)) l k) skip ≡ cells_at b own other l k
 unfolding tabulate
-line_is true {own} {other} {l} e k g {skip} x =
+line_is true {own} {other} {l} e k g skip x =
     let w = length other in
     let s = e.shape in
     let f : ℕ → ℤ = (λ j. get_or l j (pos 0)) in
@@ -94,9 +97,9 @@ line_is true {own} {other} {l} e k g {skip} x =
     let u = usable_in true own other in
     let z : 0 + w * k ≡ k * w = omega arith in
     sym (picked f t u s.size (select_row t 0 w (length own) k s.wide g (λ i. let q : i ≡ i - 0 = omega arith in ap t q) ∙ ap (λ (a : ℕ). range a w) z)
-    ∙ select_but f u (k * w) w skip (λ j q. usable_at true own other k j q ∙ x.passed j q)
+    ∙ select_but f u (k * w) w skip (λ j q. usable_at true own other k j q ∙ x j q)
     ∙ ap (λ (r : List ℤ). without r skip) (range-part l (pos 0) (k * w) w (row_end s g refl)))
-line_is false {own} {other} {l} e k g {skip} x =
+line_is false {own} {other} {l} e k g skip x =
     let w = length own in
     let h = length other in
     let s = e.shape in
@@ -106,8 +109,22 @@ line_is false {own} {other} {l} e k g {skip} x =
     let c : ℕ → ℕ = (λ r. 0 + (w * r + k)) in
     sym (picked f t u s.size (select_column t 0 w h k g (λ i. let q : i ≡ i - 0 = omega arith in ap t q))
     ∙ ap (map f) (select-map u c (range 0 h)) ∙ map-map f c (select (λ r. u (c r)) (range 0 h))
-    ∙ select_but (λ r. f (c r)) (λ r. u (c r)) 0 h skip (λ r q. let z : c (0 + r) ≡ r * w + k = omega arith in ap u z ∙ usable_at false own other r k g ∙ x.passed r q)
+    ∙ select_but (λ r. f (c r)) (λ r. u (c r)) 0 h skip (λ r q. let z : c (0 + r) ≡ r * w + k = omega arith in ap u z ∙ usable_at false own other r k g ∙ x r q)
     ∙ ap (λ (m : List ℤ). without m skip) (map-ext (λ r. f (c r)) (λ r. f (w * r + k)) (range 0 h) (λ r _. let z : c r ≡ w * r + k = omega arith in ap f z)))
+
+-- as many cells as the other end has labels
+line-few : (b : Bool) {own other : List ℕ} {l : List ℤ} → Ends b own other l → (k : ℕ) → k < length own
+    → length (line_at b (width_of b own other) (cond b (length own) (length other)) l k) ≤ length other
+line-few true {own} {other} {l} e k g = let z = row-length e.shape k g in omega arith
+line-few false {own} {other} {l} e k g = let z = length-tabulate (length other) (λ r. get_or l (length own * r + k) (pos 0)) in omega arith
+
+-- the same by the place that is skipped, if there is one
+pub line_left : (b : Bool) {own other : List ℕ} {l : List ℤ} → Ends b own other l → (k : ℕ) → k < length own → {skip : Option ℕ} → Skips other (get_or own k 0) skip
+    → left_of (line_at b (width_of b own other) (cond b (length own) (length other)) l k) skip ≡ cells_at b own other l k
+line_left b {own} {other} {l} e k g {skip = Some p} x = line_is b e k g p x.passed
+line_left b {own} {other} {l} e k g {skip = None} x =
+    sym (without_past (line_at b (width_of b own other) (cond b (length own) (length other)) l k) (length other) (line-few b e k g))
+    ∙ line_is b e k g (length other) (skips_past x)
 
 -- ---- the positions of the end
 
@@ -125,9 +142,9 @@ position_below false e j g = mod-lt j e.shape.wide
 
 -- the table by the lengths of both ends' labels, and a position of the end in it
 pub sized : (b : Bool) {own other : List ℕ} {l : List ℤ} → Ends b own other l → {w h k : ℕ} → w ≡ width_of b own other → h ≡ cond b (length own) (length other) → k < length own
-    → Shape w h l × (k < cond b h w)
-sized true e p q g = rw (p, q) (e.shape, g)
-sized false e p q g = rw (p, q) (e.shape, g)
+    → Shape w h l × (k < cond b h w) × (length other ≡ cond b w h)
+sized true e p q g = rw (p, q) (e.shape, g, refl)
+sized false e p q g = rw (p, q) (e.shape, g, refl)
 
 -- ---- the least of each position, and the least of all, which is that of them
 

@@ -1,6 +1,6 @@
 -- The least usable cell of an edge's table, found stretch by stretch between the unusable cells.
 -- Assumes nothing.
-use Rattle.std.proofs.Common.{◌≡◌, ℕ, ◌+◌, ◌-◌, ◌*◌, ◌<◌, ◌≤◌, Bool, true, false, not, eqb, ltb, List, ◌++◌, map, length, get_or, take, drop, ℤ, pos, sym, refl, ap, ◌∙◌, append-nil, arith, ltb-false, ltb-true, eq-eqb, ne_eqb}
+use Rattle.std.proofs.Common.{◌≡◌, ℕ, ◌+◌, ◌-◌, ◌*◌, ◌<◌, ◌≤◌, Bool, true, false, not, eqb, ltb, None, List, ◌++◌, map, length, get_or, take, drop, ℤ, pos, sym, refl, ap, ◌∙◌, append-nil, arith, ltb-false, ltb-true, eq-eqb, ne_eqb}
 use mathlib.Core.List.{map-append}
 use mathlib.Core.List.Memᴰ.{head as here}
 use mathlib.Core.List.Memᴰ.{tail as there}
@@ -14,8 +14,10 @@ use Rattle.integers.proofs.Places.{by-test, mem_range, range_mem, mem_select}
 use Rattle.integers.proofs.Ranges.{range_add, range-part, select_append, select_all, select_none}
 use Rattle.integers.proofs.Rows.{within_map}
 use Rattle.rules.specs.Calls.{cost_limit}
-use Rattle.messages.specs.Clash.{Skips}
+use Rattle.instance.specs.Instance.{usable}
 use Rattle.messages.specs.EdgeMessage.{usable_in, usable_of, usable_cells, unbounded, Ends}
+use Rattle.messages.specs.Clash.{Skips}
+use Rattle.messages.proofs.ClashLaws.{skips_past}
 use Rattle.messages.proofs.RowLaws.{least_parts}
 use Rattle.messages.proofs.UsableLaws.{usable_at, least_bounded}
 
@@ -116,12 +118,12 @@ module _ {low high : List ℕ} {cells : List ℤ} {best : ℤ} {from row k : ℕ
       ∙ least_bounded (usable_cells true low high cells) (within_map cost_limit (λ j. get_or cells j (pos 0)) (usable_of true low high (length cells)) w) (usable_some e)
 
   -- the next row, which lies in the table: what is unusable in it, if anything, is the cell at `skip`
-  module _ {skip : ℕ} (h : k < length low) (m : row + length high ≤ length cells) (z : Skips high (get_or low k 0) skip) where
+  module _ (skip : ℕ) (h : k < length low) (m : row + length high ≤ length cells) (z : (p : ℕ) → p < length high → usable (get_or low k 0) (get_or high p 0) ≡ not (eqb p skip)) where
     row_test : (j : ℕ) → row ≤ j → j < row + length high → usable_in true low high j ≡ not (eqb (j - row) skip)
     row_test j a b =
         let p = j - row in
         let q : j ≡ k * length high + p = omega (arith, g.start) in
-        ap (usable_in true low high) q ∙ usable_at true low high k p (omega arith) ∙ z.passed p (omega arith)
+        ap (usable_in true low high) q ∙ usable_at true low high k p (omega arith) ∙ z p (omega arith)
 
     row_clear : (j : ℕ) → row ≤ j → j < row + length high → (j ≡ row + skip → ⊥) → usable_in true low high j ≡ true
     row_clear j a b d = row_test j a b ∙ ap not (ne_eqb (j - row) skip (λ q. d (omega arith)))
@@ -130,7 +132,7 @@ module _ {low high : List ℕ} {cells : List ℤ} {best : ℤ} {from row k : ℕ
         → Passing low high cells best' from' (row + length high) (k + 1)
     passing_more f = record { inside = omega arith; start = omega (arith, g.start); gathered = f }
 
-    pub passing_clear : length high ≤ skip → Passing low high cells best from (row + length high) (k + 1)
+    passing_clear : length high ≤ skip → Passing low high cells best from (row + length high) (k + 1)
     passing_clear l = passing_more (gathered_clear g.gathered (omega arith) m (λ j a b. row_clear j a b (λ q. omega arith)))
 
     pub passing_skip : skip < length high → {best' : ℤ} → best' ≡ least_from best (take (row + skip - from) (drop from cells))
@@ -139,3 +141,7 @@ module _ {low high : List ℕ} {cells : List ℤ} {best : ℤ} {from row k : ℕ
         let before = gathered_clear g.gathered {n = row + skip} (omega arith) (omega arith) (λ j a b. row_clear j a (omega arith) (λ q. omega arith)) in
         let here = row_test (row + skip) (omega arith) (omega arith) ∙ ap not (eq-eqb (row + skip - row) skip (omega arith)) in
         passing_more (gathered_clear (gathered_cut before (omega arith) here t) (omega arith) m (λ j a b. row_clear j (omega arith) b (λ q. omega arith)))
+
+  -- the same where all of it is usable
+  pub passing_whole : k < length low → row + length high ≤ length cells → Skips high (get_or low k 0) None → Passing low high cells best from (row + length high) (k + 1)
+  passing_whole h m x = passing_clear (length high) h m (skips_past x) (omega arith)

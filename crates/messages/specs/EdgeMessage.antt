@@ -1,6 +1,6 @@
 -- Messages between one row of node costs and one edge's table of cells: what is given, and both lists once it is given. Document 01, kinds 1 and 2.
-use Rattle.std.specs.Prelude.{◌≡◌, ℕ, ◌+◌, ◌-◌, ◌*◌, ◌/◌, ◌%◌, ◌^◌, ◌<◌, ◌≤◌, Bool, true, cond, not, List, ◌++◌, map, length, get_or, drop, ℤ, pos, ◌-ℤ◌, neg_ℤ, int_lt, nat_eq, nat_lt, slice_index, slice_index_or}
-use Rattle.integers.specs.Least.{least_from, least_of}
+use Rattle.std.specs.Prelude.{◌≡◌, ℕ, ◌+◌, ◌-◌, ◌*◌, ◌/◌, ◌%◌, ◌^◌, ◌<◌, ◌≤◌, Bool, true, cond, not, Option, None, Some, List, ◌++◌, map, length, get_or, drop, ℤ, pos, ◌-ℤ◌, neg_ℤ, int_lt, nat_eq, nat_lt, slice_index, slice_index_or}
+use Rattle.integers.specs.Least.{least_from, least_of, without}
 use Rattle.integers.specs.Share.{share, excess}
 use Rattle.integers.specs.Places.{tabulate, select, range}
 use Rattle.integers.specs.Rows.{part}
@@ -83,6 +83,11 @@ unbounded = pos (2 ^ 63 - 1)
 -- the cells at a position of an end, usable or not: of the lower end a row, of the higher a column
 abbrev pub line_at : Bool → ℕ → ℕ → List ℤ → ℕ → List ℤ
 line_at by_row width height cells k = cond by_row (part cells (k * width) width) (tabulate height (λ r. get_or cells (width * r + k) (pos 0)))
+
+-- the costs of a row but for the one at a place, if there is one
+abbrev pub left_of : List ℤ → Option ℕ → List ℤ
+left_of l None = l
+left_of l (Some k) = without l k
 
 -- the least usable cell of each position
 abbrev pub least_at : Bool → List ℕ → List ℕ → List ℤ → ℕ → ℤ

@@ -17,37 +17,29 @@ pub(crate) fn mask_of(labels: &[u8]) -> u64
     ensures { Masks labels.now result }
 {
     let mut mask = 0;
-    let mut p = 0;
-    while p < labels.len() {
-        mask = mask | bit_of(labels[p]);
-        p += 1;
+    for label in labels {
+        mask = mask | bit_of(*label);
     }
     mask
 }
 
-// The place at which `label` meets an unusable cell, by looking at each; the number of labels if there is none.
-fn place_of(labels: &[u8], label: u8) -> usize
+// The place at which `label` meets an unusable cell, if there is one, by looking at each.
+fn place_of(labels: &[u8], label: u8) -> Option<usize>
     requires { Rising labels.now }
     ensures { Skips labels.now label result }
 {
-    let mut p = 0;
-    while p < labels.len() {
-        if usable(wide(label), wide(labels[p])) {
-            p += 1;
-        } else {
-            return p;
-        }
-    }
-    p
+    labels
+        .iter()
+        .position(|other| !usable(wide(label), wide(*other)))
 }
 
 // The same by the labels' mask: most labels are none of the other end's, and their bit says so at once.
-pub(crate) fn clash(labels: &[u8], mask: u64, label: u8) -> usize
+pub(crate) fn clash(labels: &[u8], mask: u64, label: u8) -> Option<usize>
     requires { Rising labels.now × Masks labels.now mask }
     ensures { Skips labels.now label result }
 {
     if mask & bit_of(label) == 0 {
-        return labels.len();
+        return None;
     }
     place_of(labels, label)
 }

@@ -1,16 +1,18 @@
 // Messages between one node's costs and one edge's table: what is given, whether both stay within the limit, and the moves. Document 01, kinds 1 and 2.
-ghost use Rattle.std.specs.Prelude.{◌≡◌, ℕ, ◌^◌, ◌<◌, ◌≤◌, false, cond, length, get_or, replicate, pos, ◌+ℤ◌, ◌<ℤ◌, FitsSigned, nat_lt, slice_index_or, slice_set, unsigned_abs};
-ghost use Rattle.integers.specs.Least.{least_from, without};
+ghost use Rattle.std.specs.Prelude.{◌≡◌, ℕ, ◌^◌, ◌<◌, ◌≤◌, false, cond, length, IfSome, get_or, replicate, pos, ◌+ℤ◌, ◌<ℤ◌, nat_lt, slice_index_or, unsigned_abs};
+ghost use Rattle.integers.specs.Least.{least_from};
 ghost use Rattle.integers.specs.Sum.{Within};
-ghost use Rattle.integers.specs.Places.{every};
+ghost use Rattle.integers.specs.Places.{every, tabulate};
 ghost use Rattle.integers.specs.Checks.{within};
 ghost use Rattle.integers.proofs.Ranges.{shifted};
 ghost use Rattle.std.specs.Int.{w64};
 ghost use Rattle.rules.specs.Calls.{cost_limit};
-ghost use Rattle.messages.specs.EdgeMessage.{node_amounts, edge_amounts, taken_of, moved_cells, moved_line, Shape, Ends, over, line_at, unbounded, least_at, turned_least};
+ghost use Rattle.messages.specs.EdgeMessage.{node_amounts, edge_amounts, taken_of, moved_cells, moved_line, Shape, Ends, over, line_at, left_of, unbounded, least_at, turned_least};
 
 use crate::clash::{clash, mask_of};
-use crate::rows::{OUT, UNBOUNDED, all_half, excess, least_but, least_of, less_at, share_of};
+use crate::rows::{
+    OUT, UNBOUNDED, all_half, excess, least, least_but, least_of, less_at, share_of,
+};
 
 // What the least of a position gives down to the least of all, turned round, and 0 if it has no usable cell.
 fn turned_least(cost: i64, low: i64, r: u8) -> i64
@@ -34,57 +36,67 @@ pub(crate) fn node_amounts(row: &[i64], share: u8) -> [i64; 16]
 {
     let low = least_of(row);
     let mut amounts = [0; 16];
-    let mut k = 0;
-    while k < row.len() {
-        amounts[k] = share_of(row[k], low, share);
-        k += 1;
+    for (k, cost) in row.iter().enumerate() {
+        amounts[k] = share_of(*cost, low, share);
     }
     amounts
 }
 
-// What the least of each of the first `many` places gives.
-fn turn_all(least: &mut [i64; 16], many: usize, low: i64, share: u8)
-    requires many_bound { (many ≤ 16) × (length least.old ≡ 16) }
+// What each least of a position gives.
+fn turn_all(least: &mut [i64], low: i64, share: u8)
     requires le_share { (1 ≤ share) × (unsigned_abs low ≤ cost_limit) }
-    requires by_index { (k : ℕ) → k < many → slice_index_or least.old k (pos 0) <ℤ unbounded → unsigned_abs (slice_index_or least.old k (pos 0)) ≤ cost_limit }
-    ensures { least.new ≡ over (λ k. turned_least (slice_index_or least.old k (pos 0)) low share) many least.old }
+    requires by_index { (k : ℕ) → k < length least.old → slice_index_or least.old k (pos 0) <ℤ unbounded → unsigned_abs (slice_index_or least.old k (pos 0)) ≤ cost_limit }
+    ensures { least.new ≡ tabulate (length least.old) (λ k. turned_least (slice_index_or least.old k (pos 0)) low share) }
 {
-    let mut k = 0;
-    while k < many {
-        least[k] = turned_least(least[k], low, share);
-        k += 1;
+    for cost in least.iter_mut() {
+        *cost = turned_least(*cost, low, share);
     }
 }
 
 // The least of the column `k` of an edge's table but for its row `skip`, if there is one.
-fn column_low(cells: &[i64], width: usize, height: usize, k: usize, skip: usize) -> i64
+fn column_low(cells: &[i64], width: usize, height: usize, k: usize, skip: Option<usize>) -> i64
     requires shape { Shape width height cells.now }
     requires k_lt_width { k < width }
-    ensures { result ≡ least_from unbounded (without (line_at false width height cells.now k) skip) }
+    ensures { result ≡ least_from unbounded (left_of (line_at false width height cells.now k) skip) }
 {
     let mut best = UNBOUNDED;
-    let mut at = k;
-    let mut r = 0;
-    while r < height {
-        if r != skip {
-            best = less_at(cells, at, best);
+    for r in 0..height {
+        if Some(r) != skip {
+            best = less_at(cells, r * width + k, best);
         }
-        at += width;
-        r += 1;
     }
     best
 }
 
+// The least of a row but for the cell at `skip`, if there is one.
+fn row_low(row: &[i64], skip: Option<usize>) -> i64
+    requires { IfSome skip (λ s. s < length row.now) }
+    ensures { result ≡ least_from unbounded (left_of row.now skip) }
+{
+    match skip {
+        Some(skip) => least_but(row, skip, UNBOUNDED),
+        None => least(row, UNBOUNDED),
+    }
+}
+
 // The least of the cells with an edge's end at its position `k`, but for the one at `skip`: of the lower end a row, of the higher a column.
-fn low_at(cells: &[i64], width: usize, height: usize, by_row: bool, k: usize, skip: usize) -> i64
+fn low_at(
+    cells: &[i64],
+    width: usize,
+    height: usize,
+    by_row: bool,
+    k: usize,
+    skip: Option<usize>,
+) -> i64
     requires shape { Shape width height cells.now }
     requires k_bound { k < cond by_row height width }
-    ensures { result ≡ least_from unbounded (without (line_at by_row width height cells.now k) skip) }
+    requires skip_bound { IfSome skip (λ s. s < cond by_row width height) }
+    ensures { result ≡ least_from unbounded (left_of (line_at by_row width height cells.now k) skip) }
 {
     if by_row {
         let a = k * width;
         let b = a + width;
-        least_but(&cells[a..b], skip, UNBOUNDED)
+        row_low(&cells[a..b], skip)
     } else {
         column_low(cells, width, height, k, skip)
     }
@@ -106,11 +118,9 @@ fn least_by(cells: &[i64], own: &[u8], other: &[u8], by_row: bool) -> [i64; 16]
     let height = either(by_row, own.len(), other.len());
     let mask = mask_of(other);
     let mut least = [0; 16];
-    let mut k = 0;
-    while k < own.len() {
-        let skip = clash(other, mask, own[k]);
+    for (k, label) in own.iter().enumerate() {
+        let skip = clash(other, mask, *label);
         least[k] = low_at(cells, width, height, by_row, k, skip);
-        k += 1;
     }
     least
 }
@@ -131,7 +141,7 @@ pub(crate) fn edge_amounts(
     let mut amounts = least_by(cells, own, other, by_row);
     let many = own.len();
     let low = least_of(&amounts[..many]);
-    turn_all(&mut amounts, many, low, share);
+    turn_all(&mut amounts[..many], low, share);
     amounts
 }
 
@@ -141,10 +151,8 @@ pub(crate) fn negated(amounts: &[i64; 16]) -> [i64; 16]
     ensures { result ≡ taken_of amounts.now }
 {
     let mut taken = [0; 16];
-    let mut k = 0;
-    while k < 16 {
-        taken[k] = -amounts[k];
-        k += 1;
+    for (k, amount) in amounts.iter().enumerate() {
+        taken[k] = -*amount;
     }
     taken
 }
@@ -157,17 +165,17 @@ fn excess_with(cost: i64, amount: i64, limit: u64) -> u64
     excess(cost + amount, limit)
 }
 
-// At least `OUT` if one of some costs that receive one amount does.
-fn excess_all(line: &[i64], amount: i64, limit: u64) -> u64
+// At least `OUT` if a cell of the k-th row of a table that receives its amount does: by rows one amount serves all, by columns each has its own.
+fn excess_line(line: &[i64], k: usize, by_row: bool, amounts: &[i64; 16], limit: u64) -> u64
+    requires line_len_bound { (length line.now ≤ 16) × (k < 16) }
     requires within { Within cost_limit line.now }
-    requires amount_bound { (unsigned_abs amount ≤ 2 ^ 41) × (limit ≤ cost_limit) }
-    ensures { nat_lt result (2 ^ 63) ≡ every (within limit) (shifted (λ k. amount) line.now) }
+    requires within_2 { Within (2 ^ 41) amounts.now × (limit ≤ cost_limit) }
+    ensures { nat_lt result (2 ^ 63) ≡ every (within limit) (moved_line by_row k amounts.now line.now) }
 {
     let mut all = 0;
-    let mut k = 0;
-    while k < line.len() {
-        all = all | excess_with(line[k], amount, limit);
-        k += 1;
+    for (j, cost) in line.iter().enumerate() {
+        let amount = amounts[either(by_row, k, j)];
+        all = all | excess_with(*cost, amount, limit);
     }
     all
 }
@@ -179,27 +187,7 @@ pub(crate) fn excess_each(line: &[i64], amounts: &[i64; 16], limit: u64) -> u64
     requires within_2 { Within (2 ^ 41) amounts.now × (limit ≤ cost_limit) }
     ensures { nat_lt result (2 ^ 63) ≡ every (within limit) (shifted (λ k. get_or amounts.now k (pos 0)) line.now) }
 {
-    let mut all = 0;
-    let mut k = 0;
-    while k < line.len() {
-        all = all | excess_with(line[k], amounts[k], limit);
-        k += 1;
-    }
-    all
-}
-
-// At least `OUT` if a cell of the k-th row of a table that receives its amount does.
-fn excess_line(line: &[i64], k: usize, by_row: bool, amounts: &[i64; 16], limit: u64) -> u64
-    requires line_len_bound { (length line.now ≤ 16) × (k < 16) }
-    requires within { Within cost_limit line.now }
-    requires within_2 { Within (2 ^ 41) amounts.now × (limit ≤ cost_limit) }
-    ensures { nat_lt result (2 ^ 63) ≡ every (within limit) (moved_line by_row k amounts.now line.now) }
-{
-    if by_row {
-        excess_all(line, amounts[k], limit)
-    } else {
-        excess_each(line, amounts, limit)
-    }
+    excess_line(line, 0, false, amounts, limit)
 }
 
 // Whether each cell of an edge's table that receives the amount at its position stays within the limit.
@@ -217,13 +205,10 @@ fn each_cell_fits(
     ensures { result ≡ every (within limit) (moved_cells by_row width amounts.now cells.now) }
 {
     let mut all = 0;
-    let mut k = 0;
-    let mut a = 0;
-    while k < height {
+    for k in 0..height {
+        let a = k * width;
         let b = a + width;
         all = all | excess_line(&cells[a..b], k, by_row, amounts, limit);
-        a = b;
-        k += 1;
     }
     all < OUT
 }
@@ -250,25 +235,16 @@ pub(crate) fn cells_fit(
     each_cell_fits(cells, width, height, by_row, amounts, limit)
 }
 
-// Adds an amount to a cost.
-fn add_at(costs: &mut [i64], k: usize, amount: i64)
-    requires k_in_bounds { k < length costs.old }
-    requires fits_signed { FitsSigned w64 (slice_index_or costs.old k (pos 0) +ℤ amount) }
-    ensures { costs.new ≡ slice_set costs.old k (slice_index_or costs.old k (pos 0) +ℤ amount) }
-{
-    costs[k] = costs[k] + amount;
-}
-
-// Adds one amount to each cell of a row.
-fn raise_all(line: &mut [i64], amount: i64)
+// Adds to each cell of the k-th row of a table its amount.
+fn move_line(line: &mut [i64], k: usize, by_row: bool, amounts: &[i64; 16])
+    requires line_len_bound { (length line.old ≤ 16) × (k < 16) }
     requires within { Within cost_limit line.old }
-    requires amount_bound { unsigned_abs amount ≤ 2 ^ 41 }
-    ensures { line.new ≡ shifted (λ k. amount) line.old }
+    requires within_2 { Within (2 ^ 41) amounts.now }
+    ensures { line.new ≡ moved_line by_row k amounts.now line.old }
 {
-    let mut j = 0;
-    while j < line.len() {
-        add_at(line, j, amount);
-        j += 1;
+    for (j, cost) in line.iter_mut().enumerate() {
+        let amount = amounts[either(by_row, k, j)];
+        *cost = *cost + amount;
     }
 }
 
@@ -279,25 +255,7 @@ pub(crate) fn raise_each(line: &mut [i64], amounts: &[i64; 16])
     requires within_2 { Within (2 ^ 41) amounts.now }
     ensures { line.new ≡ shifted (λ k. get_or amounts.now k (pos 0)) line.old }
 {
-    let mut k = 0;
-    while k < line.len() {
-        add_at(line, k, amounts[k]);
-        k += 1;
-    }
-}
-
-// Adds to each cell of the k-th row of a table its amount.
-fn move_line(line: &mut [i64], k: usize, by_row: bool, amounts: &[i64; 16])
-    requires line_len_bound { (length line.old ≤ 16) × (k < 16) }
-    requires within { Within cost_limit line.old }
-    requires within_2 { Within (2 ^ 41) amounts.now }
-    ensures { line.new ≡ moved_line by_row k amounts.now line.old }
-{
-    if by_row {
-        raise_all(line, amounts[k]);
-    } else {
-        raise_each(line, amounts);
-    }
+    move_line(line, 0, false, amounts);
 }
 
 // Adds to each cell of an edge's table the amount at its position.
@@ -313,12 +271,9 @@ pub(crate) fn move_cells(
     requires within_2 { Within (2 ^ 41) amounts.now }
     ensures { cells.new ≡ moved_cells by_row width amounts.now cells.old }
 {
-    let mut k = 0;
-    let mut a = 0;
-    while k < height {
+    for k in 0..height {
+        let a = k * width;
         let b = a + width;
         move_line(&mut cells[a..b], k, by_row, amounts);
-        a = b;
-        k += 1;
     }
 }

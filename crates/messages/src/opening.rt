@@ -5,7 +5,7 @@ ghost use Rattle.instance.specs.Bytes.{price_at};
 ghost use Rattle.rules.specs.Calls.{open_of};
 ghost use Rattle.messages.specs.Lent.{lent, opens};
 
-use crate::filling::{fill_none, fill_prices, fill_zero};
+use crate::filling::fill_prices;
 use crate::view::{COST_LIMIT, view_of};
 use instance::refusal::{BUFFER_LENGTH, NONE};
 use instance::{Layout, read};
@@ -49,9 +49,9 @@ fn fill(
     ensures incumbent_after { incumbent.new ≡ replicate (length incumbent.old) 255 }
 {
     fill_prices(sheet, prices, nodes);
-    fill_zero(labels);
+    labels.fill(0);
     fill_prices(sheet, cells, edges);
-    fill_none(incumbent);
+    incumbent.fill(255);
 }
 
 pub fn open(

@@ -9,13 +9,11 @@ ghost use Rattle.integers.specs.Places.{every};
 ghost use Rattle.integers.specs.Checks.{within};
 ghost use Rattle.rules.specs.Calls.{cost_limit};
 
-use std::num::{wrapping_add_u64, wrapping_sub_u64};
-
 // The less of two.
 pub(crate) fn smaller(a: i64, b: i64) -> i64
     ensures { result ≡ min_ℤ a b }
 {
-    if a < b { a } else { b }
+    a.min(b)
 }
 
 // A sum that fits.
@@ -47,10 +45,8 @@ fn least_in_turn(row: &[i64], start: i64) -> i64
     ensures { result ≡ least_from start row.now }
 {
     let mut best = start;
-    let mut i = 0;
-    while i < row.len() {
-        best = less_at(row, i, best);
-        i += 1;
+    for cost in row {
+        best = best.min(*cost);
     }
     best
 }
@@ -75,15 +71,14 @@ pub(crate) fn least(row: &[i64], start: i64) -> i64
 }
 
 // Above every cost: the least of no costs.
+// Kept: a minimum starts from it; as an `Option` each cost would first ask whether there is a least so far.
 pub(crate) const UNBOUNDED: i64 = 0x7FFF_FFFF_FFFF_FFFF;
 
-// The least of `start` and the costs of a row but for the one at `skip`, if there is one.
+// The least of `start` and the costs of a row but for the one at `skip`.
 pub(crate) fn least_but(row: &[i64], skip: usize, start: i64) -> i64
+    requires { skip < length row.now }
     ensures { result ≡ least_from start (without row.now skip) }
 {
-    if row.len() <= skip {
-        return least(row, start);
-    }
     let next = skip + 1;
     least(&row[next..], least(&row[..skip], start))
 }
@@ -110,7 +105,7 @@ fn nearest_to(n: u64, r: u8) -> u64
     requires { (1 ≤ r) × (n ≤ 2 ^ 41) }
     ensures { result ≡ nearest n r }
 {
-    let by = r as u64;
+    let by = u64::from(r);
     let quotient = n / by;
     let rest = n % by;
     let next = quotient + 1;
@@ -127,38 +122,19 @@ pub(crate) fn share_of(cost: i64, low: i64, r: u8) -> i64
     requires cost_bound { (unsigned_abs cost ≤ cost_limit) × (unsigned_abs low ≤ cost_limit) }
     ensures { result ≡ share (cost -ℤ low) r }
 {
+    let apart = cost - low;
     if r == 1 {
-        return cost - low;
+        return apart;
     }
-    if cost < low {
-        let part = nearest_to((low - cost) as u64, r);
-        minus(0, part as i64)
-    } else {
-        nearest_to((cost - low) as u64, r) as i64
-    }
-}
-
-// The bits of a cost.
-fn bits_of(cost: i64) -> u64
-    ensures { result ≡ of_z w64 cost }
-{
-    if cost < 0 {
-        u64::MAX - ((-1 - cost) as u64)
-    } else {
-        cost as u64
-    }
+    let part = nearest_to(apart.unsigned_abs(), r) as i64;
+    if apart < 0 { -part } else { part }
 }
 
 // Whether a cost lies within the limit. The smallest i64 is no special case.
 pub(crate) fn in_range(cost: i64, limit: u64) -> bool
     ensures { result ≡ within limit cost }
 {
-    let bits = bits_of(cost);
-    if cost < 0 {
-        wrapping_sub_u64(0, bits) <= limit
-    } else {
-        bits <= limit
-    }
+    cost.unsigned_abs() <= limit
 }
 
 // From here on the highest bit is set.
@@ -169,8 +145,8 @@ pub(crate) fn excess(cost: i64, limit: u64) -> u64
     requires { limit ≤ cost_limit }
     ensures { nat_lt result (2 ^ 63) ≡ within limit cost }
 {
-    let bits = bits_of(cost);
-    wrapping_add_u64(bits, limit) | wrapping_sub_u64(limit, bits)
+    let bits = cost.cast_unsigned();
+    bits.wrapping_add(limit) | limit.wrapping_sub(bits)
 }
 
 // Whether each cost lies within the limit. It does not stop at the first that does not, so that several are tested at a time.
@@ -179,10 +155,8 @@ pub(crate) fn all_in_range(costs: &[i64], limit: u64) -> bool
     ensures { result ≡ every (within limit) costs.now }
 {
     let mut all = 0;
-    let mut i = 0;
-    while i < costs.len() {
-        all = all | excess(costs[i], limit);
-        i += 1;
+    for cost in costs {
+        all = all | excess(*cost, limit);
     }
     all < OUT
 }
@@ -192,7 +166,7 @@ fn raised(cost: i64, half: u64) -> u64
     requires { half ≤ cost_limit }
     ensures { result < 2 * half → unsigned_abs cost ≤ half }
 {
-    wrapping_add_u64(bits_of(cost), half)
+    cost.cast_unsigned().wrapping_add(half)
 }
 
 // A quick test, which may fail for costs within `half` as well: if it does not, each cost is, so that two add up to no more than twice that.
@@ -201,10 +175,8 @@ pub(crate) fn all_half(costs: &[i64], half: u64) -> bool
     ensures { result ≡ true → Within half costs.now }
 {
     let mut all = 0;
-    let mut i = 0;
-    while i < costs.len() {
-        all = all | raised(costs[i], half);
-        i += 1;
+    for cost in costs {
+        all = all | raised(*cost, half);
     }
     all < 2 * half
 }

@@ -19,16 +19,13 @@ pub(crate) fn usable_least(cells: &[i64], low: &[u8], high: &[u8]) -> i64
     let mut best = UNBOUNDED;
     let mut from = 0;
     let mut row = 0;
-    let mut k = 0;
-    while k < low.len() {
-        let skip = clash(high, mask, low[k]);
-        if skip < width {
+    for label in low {
+        if let Some(skip) = clash(high, mask, *label) {
             let to = row + skip;
             best = least(&cells[from..to], best);
             from = to + 1;
         }
         row += width;
-        k += 1;
     }
     least(&cells[from..], best)
 }

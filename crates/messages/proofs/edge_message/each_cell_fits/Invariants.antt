@@ -8,7 +8,4 @@ use Rattle.messages.proofs.ExcessLaws.{Joining}
 use Rattle.messages.proofs.edge_message.each_cell_fits.Given as goal
 
 abbrev pub invariant-loop-k : goal.invariant-loop-k
-invariant-loop-k l = (l.a ≡ l.k * l.width) × Joining (λ r. every (within l.limit) (moved_line l.by_row r l.amounts (part l.cells (r * l.width) l.width))) l.height l.k l.all
-
-abbrev pub decreases-loop-k : goal.decreases-loop-k
-decreases-loop-k l = l.height - l.k
+invariant-loop-k l = Joining (λ r. every (within l.limit) (moved_line l.by_row r l.amounts (part l.cells (r * l.width) l.width))) l.height l.k l.all

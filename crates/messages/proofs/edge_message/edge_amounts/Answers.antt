@@ -1,9 +1,9 @@
 -- `edge_amounts` meets its contract: the least of each position, the least of these, and what each gives.
-use Rattle.std.proofs.Common.{◌≡◌, ℕ, ◌≤◌, Bool, List, length, get_or, take, ℤ, pos, sym, ap, ◌∙◌, arith, length-take-le, w64, to_z, of_z}
+use Rattle.std.proofs.Common.{◌≡◌, ℕ, ◌<◌, ◌≤◌, Bool, List, ◌++◌, length, get_or, take, drop, ℤ, pos, sym, ap, ◌∙◌, arith, length-take-le, get_or-take, w64, to_z, of_z}
 use Rattle.integers.specs.Least.{least_of}
 use Rattle.integers.proofs.Bits.{answer}
 use Rattle.messages.specs.EdgeMessage.{usable_cells, over, least_at, turned_least}
-use Rattle.messages.proofs.OverLaws.{length_over, over_at}
+use Rattle.messages.proofs.OverLaws.{length_over, over_at, over_front}
 use Rattle.messages.proofs.EdgeLaws.{zeros}
 use Rattle.messages.proofs.UsableLaws.{own_few, own_some, low_within, position_within, edge_least_lem, edge_is}
 use Rattle.messages.proofs.edge_message.edge_amounts.Goals as goal
@@ -44,15 +44,33 @@ low c =
     let p = (goal.at.After-least_of-low c).After-least_by-amounts in answer c.least_of-low.type_inv c.least_of-low.ensures ∙ ap (λ (l : List ℤ). least_of (take (length (own p)) l)) c.least_by-amounts.ensures
     ∙ edge_least_lem (q p).requires.ends (q p).requires.within
 
+-- the least of a position, where it is read
+module _ (p : After-least_by-amounts) (k : ℕ) (h : k < length (own p)) where
+  at : get_or p.least_by-amounts.result k (pos 0) ≡ f p k
+  at = ap (λ (l : List ℤ). get_or l k (pos 0)) p.least_by-amounts.ensures ∙ over_at (f p) (length (own p)) zeros k h
+
+  taken_is : get_or (take (length (own p)) p.least_by-amounts.result) k (pos 0) ≡ get_or p.least_by-amounts.result k (pos 0)
+  taken_is = get_or-take (length (own p)) p.least_by-amounts.result k (pos 0) h
+
 pub turn_all-requires : goal.turn_all-requires
 turn_all-requires c =
-    let p = (goal.at.turn_all-requires c).After-least_by-amounts in record { many_bound = (few p, long p); le_share = ((q p).requires.le_share, rw (low (goal.at.turn_all-requires c).After-least_of-low) (low_within (q p).requires.ends (q p).requires.within)); by_index = λ k h. rw (ap (λ (l : List ℤ). get_or l k (pos 0)) c.least_by-amounts.ensures ∙ over_at (f p) (length (own p)) zeros k h) (position_within (q p).requires.ends (q p).requires.within k) }
+    let p = (goal.at.turn_all-requires c).After-least_by-amounts in
+    record {
+      le_share = ((q p).requires.le_share, rw (low (goal.at.turn_all-requires c).After-least_of-low) (low_within (q p).requires.ends (q p).requires.within));
+      by_index = λ k h. let n : k < length (own p) = omega (arith, taken p) in rw (taken_is p k n ∙ at p k n) (position_within (q p).requires.ends (q p).requires.within k);
+    }
 
 pub returns : goal.returns
 returns c =
     let p = (goal.at.returns c).After-least_by-amounts in let e = c.least_by-amounts.ensures in
-    c.turn_all.ensures ∙ (λ i. over (λ k. turned_least (get_or (e i) k (pos 0)) (low (goal.at.returns c).After-least_of-low i) (q p).args.share) (length (own p)) (e i))
-    ∙ edge_is (q p).requires.ends (q p).requires.within (q p).args.share
+    let n = length (own p) in
+    let l = c.least_by-amounts.result in
+    let b = to_z w64 (of_z w64 c.least_of-low.result) in
+    let r = (q p).args.share in
+    ap (λ (m : List ℤ). m ++ drop n l) c.turn_all.ensures
+    ∙ over_front (λ k. turned_least (get_or (take n l) k (pos 0)) b r) (λ k. turned_least (get_or l k (pos 0)) b r) l (taken p) (λ k h. ap (λ (x : ℤ). turned_least x b r) (taken_is p k h))
+    ∙ (λ i. over (λ k. turned_least (get_or (e i) k (pos 0)) (low (goal.at.returns c).After-least_of-low i) r) n (e i))
+    ∙ edge_is (q p).requires.ends (q p).requires.within r
 
 pub slice_bounds-amounts-end : goal.slice_bounds-amounts-end
 slice_bounds-amounts-end c = omega (arith, few c, long c)

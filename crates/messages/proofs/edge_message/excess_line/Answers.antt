@@ -1,25 +1,21 @@
--- `excess_line` meets its contract: by rows one amount serves all cells, by columns each has its own.
-use Rattle.std.proofs.Common.{Bool, get_or, ℤ, pos, sym, ap, ◌∙◌, to_z-of_z, w64, rules}
+-- `excess_line` meets its contract: what each cell gives is joined.
+use Rattle.std.proofs.Common.{ℕ, cond, get_or, ℤ, pos, ◌+ℤ◌, ap, ◌∙◌, ap₂, arith, to_z-of_z, w64, rules}
 use Rattle.integers.specs.Checks.{within}
-use Rattle.integers.specs.Places.{every}
-use Rattle.integers.proofs.Ranges.{shifted}
-use Rattle.messages.specs.EdgeMessage.{moved_line}
+use Rattle.messages.proofs.ExcessLaws.{joining_none, joining_more, joining_shifted}
 use Rattle.messages.proofs.edge_message.excess_line.Goals as goal
-use Rattle.messages.proofs.edge_message.excess_line.Goals.{Start}
 
--- the answer for rows, or for columns
-abbrev told : Start → Bool → Bool
-told q b = every (within q.args.limit) (moved_line b q.args.k q.args.amounts.now q.args.line.now)
+pub loop-j-init : goal.loop-j-init
+loop-j-init c = joining_none _ _
 
-pub excess_all-requires : goal.excess_all-requires
-excess_all-requires c =
-    record { within = c.requires.within; amount_bound = (rw (to_z-of_z {w = w64} {z = get_or c.args.amounts.now c.args.k (pos 0)} (search rules)) (c.requires.within_2.0 c.args.k), c.requires.within_2.1) }
+pub loop-j-preserved : goal.loop-j-preserved
+loop-j-preserved c =
+    let v = c.args.amounts.now in
+    let i = c.either.result in
+    joining_more c.excess_with-all.result c.loop-j.invariant (omega arith)
+    (c.excess_with-all.ensures
+    ∙ ap₂ (λ (x y : ℤ). within c.args.limit (x +ℤ y)) (to_z-of_z {w = w64} {z = get_or c.args.line.now c.loop-j.j (pos 0)} (search rules))
+    (to_z-of_z {w = w64} {z = get_or v i (pos 0)} (search rules) ∙ ap (λ (i : ℕ). get_or v i (pos 0)) c.either.ensures))
 
-pub returns-then-by_row : goal.returns-then-by_row
-returns-then-by_row c =
-    c.excess_all.ensures
-    ∙ ap (λ (z : ℤ). every (within c.args.limit) (shifted (λ j. z) c.args.line.now)) (to_z-of_z {w = w64} {z = get_or c.args.amounts.now c.args.k (pos 0)} (search rules))
-    ∙ ap (told (goal.at.returns-then-by_row c).Start) (sym c.if-by_row.true)
-
-pub returns-else-by_row : goal.returns-else-by_row
-returns-else-by_row c = c.excess_each.ensures ∙ ap (told (goal.at.returns-else-by_row c).Start) (sym c.if-by_row.false)
+pub returns : goal.returns
+returns c =
+    let x = c.args in joining_shifted x.limit (λ j. get_or x.amounts.now (cond x.by_row x.k j) (pos 0)) x.line.now c.loop-j.invariant (omega arith)

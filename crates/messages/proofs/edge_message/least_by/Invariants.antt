@@ -7,6 +7,3 @@ use Rattle.messages.proofs.edge_message.least_by.Given as goal
 
 abbrev pub invariant-loop-k : goal.invariant-loop-k
 invariant-loop-k l = Overwritten (least_at l.by_row l.own l.other l.cells) (length l.own) zeros l.k l.least
-
-abbrev pub decreases-loop-k : goal.decreases-loop-k
-decreases-loop-k l = length l.own - l.k

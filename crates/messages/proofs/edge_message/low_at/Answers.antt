@@ -1,15 +1,15 @@
 -- `low_at` meets its contract: the end says whether a row or a column is gone through.
 use Rattle.std.proofs.Common.{◌+◌, ◌*◌, ◌<◌, ◌≤◌, Bool, cond, List, length, ℤ, sym, refl, ap, ◌∙◌, subst, arith}
-use Rattle.integers.specs.Least.{least_from, without}
+use Rattle.integers.specs.Least.{least_from}
 use Rattle.integers.proofs.Bits.{answer}
-use Rattle.messages.specs.EdgeMessage.{line_at, unbounded}
+use Rattle.messages.specs.EdgeMessage.{line_at, left_of, unbounded}
 use Rattle.messages.proofs.EdgeLaws.{row_end, row_part}
 use Rattle.messages.proofs.edge_message.low_at.Goals as goal
 use Rattle.messages.proofs.edge_message.low_at.Goals.{Start, Then-by_row}
 
 -- the answer for a line, and the line by rows, or by columns
 abbrev told : Start → List ℤ → ℤ
-told q l = least_from unbounded (without l q.args.skip)
+told q l = least_from unbounded (left_of l q.args.skip)
 
 abbrev line : Start → Bool → List ℤ
 line q b = line_at b q.args.width q.args.height q.args.cells.now q.args.k
@@ -33,20 +33,8 @@ column_low-requires c =
 pub returns-then-by_row : goal.returns-then-by_row
 returns-then-by_row c =
     let t = (goal.at.returns-then-by_row c).Then-by_row in let x = c.args in
-    answer c.least_but.type_inv c.least_but.ensures ∙ ap (told (q t)) (row_part (q t).requires.shape x.k refl ∙ ap (line (q t)) (sym c.if-by_row.true))
+    answer c.row_low.type_inv c.row_low.ensures ∙ ap (told (q t)) (row_part (q t).requires.shape x.k refl ∙ ap (line (q t)) (sym c.if-by_row.true))
 
 pub returns-else-by_row : goal.returns-else-by_row
 returns-else-by_row c =
     let q = (goal.at.returns-else-by_row c).Start in answer c.column_low.type_inv c.column_low.ensures ∙ ap (λ (b : Bool). told q (line q b)) (sym c.if-by_row.false)
-
-pub overflow_mul-a : goal.overflow_mul-a
-overflow_mul-a c = record { fits = omega (arith, end c) }
-
-pub overflow_add-b : goal.overflow_add-b
-overflow_add-b c = omega (arith, end c)
-
-pub offset_bounds-cells-a : goal.offset_bounds-cells-a
-offset_bounds-cells-a c = omega (arith, end c)
-
-pub slice_bounds-least_but-end : goal.slice_bounds-least_but-end
-slice_bounds-least_but-end c = omega (arith, end c)

@@ -1,5 +1,5 @@
 -- `move_cells` meets its contract. The loop's invariant: `a` is where the row k begins, the cells before it have received their amounts, and the others are as they were.
-use Rattle.std.proofs.Common.{◌≡◌, ℕ, ◌+◌, ◌-◌, ◌*◌, ◌≤◌, List, length, get_or, take, drop, ℤ, pos, ◌+ℤ◌, sym, ap, ◌∙◌, ap₂, arith}
+use Rattle.std.proofs.Common.{◌≡◌, ℕ, ◌+◌, ◌-◌, ◌*◌, ◌<◌, ◌≤◌, List, length, get_or, take, drop, ℤ, pos, ◌+ℤ◌, sym, refl, ap, ◌∙◌, ap₂, zero-mul, arith}
 use borrow.Rule.Slice.PartMut.{put_mid}
 use Rattle.integers.specs.Rows.{part}
 use Rattle.integers.proofs.Rows.{within_part}
@@ -19,16 +19,15 @@ module _ (c : In-loop-k) where
   abbrev q : Start
   q = (goal.at.In-loop-k c).Start
 
-  end : c.loop-k.a + q.args.width ≤ length q.args.cells.now
-  end = row_end q.requires.shape c.loop-k-test.true c.loop-k.invariant.1
+  end : c.loop-k.k * q.args.width + q.args.width ≤ length q.args.cells.now
+  end = row_end q.requires.shape (omega arith) refl
 
-  line : take (c.loop-k.a + q.args.width - c.loop-k.a) (drop c.loop-k.a c.loop-k.cells) ≡ part q.args.cells.now (c.loop-k.k * q.args.width) q.args.width
-  line = ap (take (c.loop-k.a + q.args.width - c.loop-k.a)) (written_drop c.loop-k.invariant.2) ∙ row_part q.requires.shape c.loop-k.k c.loop-k.invariant.1
+  line : take (c.loop-k.k * q.args.width + q.args.width - c.loop-k.k * q.args.width) (drop (c.loop-k.k * q.args.width) c.loop-k.cells) ≡ part q.args.cells.now (c.loop-k.k * q.args.width) q.args.width
+  line = ap (take (c.loop-k.k * q.args.width + q.args.width - c.loop-k.k * q.args.width)) (written_drop c.loop-k.invariant) ∙ row_part q.requires.shape c.loop-k.k refl
 
 pub move_line-requires : goal.move_line-requires
 move_line-requires c =
-    let h = c.loop-k-test.true in
-    let n = row-length c.requires.shape c.loop-k.k h in
+    let n = row-length c.requires.shape c.loop-k.k (omega arith) in
     rw (line (goal.at.move_line-requires c).In-loop-k) record { line_len_bound = (omega (arith, c.requires.shape), omega (arith, c.requires.shape)); within = within_part cost_limit (c.loop-k.k * c.args.width) c.args.width c.args.cells.now c.requires.within; within_2 = c.requires.within_2 }
 
 pub loop-k-preserved : goal.loop-k-preserved
@@ -37,30 +36,28 @@ loop-k-preserved c =
     let v = c.args.amounts.now in
     let b = c.args.by_row in
     let k = c.loop-k.k in
-    let a = c.loop-k.a in
+    let a = k * c.args.width in
     let m = moved_line b k v (part c.args.cells.now (k * c.args.width) c.args.width) in
     let e : a + c.args.width - a ≡ c.args.width = omega arith in
-    let h = c.loop-k-test.true in
+    let h : k < c.args.height = omega arith in
     let w =
-    written_part c.loop-k.invariant.2 c.args.width (end i) m (line_length s b v k h)
-    (λ j g. line_at_lem s b v k j h g ∙ ap (λ (n : ℕ). get_or c.args.cells.now (n + j) (pos 0) +ℤ f (goal.at.loop-k-preserved c).Start (n + j)) (sym c.loop-k.invariant.1)) in (
-      omega arith,
-      omega (arith, c.loop-k.invariant.1),
-      record {
-        inside = w.inside;
-        room = w.room;
-        told = ap₂ (λ (n : ℕ) (t : List ℤ). put_mid a n c.loop-k.cells t) e (c.move_line.ensures ∙ ap (moved_line b k v) (line i)) ∙ w.told;
-      },
-    )
+    written_part c.loop-k.invariant c.args.width (end i) m (line_length s b v k h)
+    (λ j g. line_at_lem s b v k j h g) in
+    let z : (k + 1) * c.args.width ≡ a + c.args.width = omega arith in
+    rw z record {
+      inside = w.inside;
+      room = w.room;
+      told = ap₂ (λ (n : ℕ) (t : List ℤ). put_mid a n c.loop-k.cells t) e (c.move_line.ensures ∙ ap (moved_line b k v) (line i)) ∙ w.told;
+    }
 
 pub returns : goal.returns
 returns c =
     let e : c.loop-k.k ≡ c.args.height = omega arith in
     let z : c.loop-k.k * c.args.width ≡ c.args.height * c.args.width = ap (λ (n : ℕ). n * c.args.width) e in
-    raised_all (f (goal.at.returns c).Start) c.loop-k.invariant.2 (omega (arith, written_length c.loop-k.invariant.2, c.loop-k.invariant.1, c.requires.shape.size))
+    raised_all (f (goal.at.returns c).Start) c.loop-k.invariant (omega (arith, written_length c.loop-k.invariant, z, c.requires.shape.size))
 
 pub loop-k-init : goal.loop-k-init
-loop-k-init c = (omega arith, omega arith, written_none _ _ _ (omega arith))
+loop-k-init c = rw zero-mul (written_none _ _ _ (omega arith))
 
 pub overflow_add-b : goal.overflow_add-b
 overflow_add-b c = omega (arith, end c)
@@ -69,13 +66,7 @@ pub offset_bounds-cells-a : goal.offset_bounds-cells-a
 offset_bounds-cells-a c = omega (arith, end c)
 
 pub slice_bounds-move_line-end : goal.slice_bounds-move_line-end
-slice_bounds-move_line-end c = omega (arith, end c, written_length c.loop-k.invariant.2)
-
-pub overflow_add-k : goal.overflow_add-k
-overflow_add-k c = omega (arith, c.loop-k-test.true)
-
-pub loop-k-smaller : goal.loop-k-smaller
-loop-k-smaller c = omega (arith, c.loop-k-test.true)
+slice_bounds-move_line-end c = omega (arith, end c, written_length c.loop-k.invariant)
 
 pub shape_of-cells : goal.shape_of-cells
-shape_of-cells c = written_length c.loop-k.invariant.2
+shape_of-cells c = written_length c.loop-k.invariant

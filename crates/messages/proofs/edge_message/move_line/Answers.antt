@@ -1,20 +1,45 @@
--- `move_line` meets its contract: by rows one amount goes to all cells, by columns each has its own.
-use Rattle.std.proofs.Common.{Bool, get_or, ℤ, pos, sym, ap, ◌∙◌, to_z-of_z, w64, rules}
-use Rattle.integers.proofs.Ranges.{shifted}
-use Rattle.messages.specs.EdgeMessage.{moved_line}
+-- `move_line` meets its contract. The loop's invariant: the first j cells have received their amounts, and the others are as they were.
+use Rattle.std.proofs.Common.{ℕ, cond, ◌^◌, ◌≤◌, nat_abs, get_or, set, ℤ, pos, ◌+ℤ◌, ap, ◌∙◌, ap₂, arith, to_z-of_z, w64, SFits, to_z, of_z, rules}
+use Rattle.rules.specs.Calls.{cost_limit}
+use Rattle.messages.proofs.RowLaws.{sum_fits, sum_is}
+use Rattle.messages.proofs.OverLaws.{written_none, written_next, raised_more, raised_all}
 use Rattle.messages.proofs.edge_message.move_line.Goals as goal
+use Rattle.messages.proofs.edge_message.move_line.Goals.{After-either, In-loop-j, Start}
 
-pub raise_all-requires : goal.raise_all-requires
-raise_all-requires c =
-    record { within = c.requires.within; amount_bound = rw (to_z-of_z {w = w64} {z = get_or c.args.amounts.now c.args.k (pos 0)} (search rules)) (c.requires.within_2 c.args.k) }
+-- the amount at a place
+abbrev f : Start → ℕ → ℤ
+f q j = get_or q.args.amounts.now (cond q.args.by_row q.args.k j) (pos 0)
 
-pub returns-then-by_row : goal.returns-then-by_row
-returns-then-by_row c =
-    let l = c.args.line.now in
-    let v = c.args.amounts.now in
-    c.raise_all.ensures ∙ ap (λ (z : ℤ). shifted (λ j. z) l) (to_z-of_z {w = w64} {z = get_or v c.args.k (pos 0)} (search rules))
-    ∙ ap (λ (b : Bool). moved_line b c.args.k v l) (sym c.if-by_row.true)
+-- the sum of a cell and its amount
+module _ (c : After-either) where
+  abbrev q : Start
+  q = (goal.at.After-either c).Start
 
-pub returns-else-by_row : goal.returns-else-by_row
-returns-else-by_row c =
-    c.raise_each.ensures ∙ ap (λ (b : Bool). moved_line b c.args.k c.args.amounts.now c.args.line.now) (sym c.if-by_row.false)
+  abbrev i : In-loop-j
+  i = (goal.at.After-either c).In-loop-j
+
+  abbrev x : ℤ
+  x = get_or i.loop-j.line i.loop-j.j (pos 0)
+
+  abbrev y : ℤ
+  y = get_or q.args.amounts.now c.either.result (pos 0)
+
+  small : nat_abs x ≤ cost_limit
+  small = rw (written_next i.loop-j.invariant) (q.requires.within i.loop-j.j)
+
+  few : nat_abs y ≤ 2 ^ 41
+  few = q.requires.within_2 c.either.result
+
+pub loop-j-init : goal.loop-j-init
+loop-j-init c = written_none _ _ _ (omega arith)
+
+pub overflow_add-cost : goal.overflow_add-cost
+overflow_add-cost c = let e = (goal.at.overflow_add-cost c).After-either in sum_fits (x e) (y e) (small e) (few e)
+
+pub loop-j-preserved : goal.loop-j-preserved
+loop-j-preserved c =
+    let e = (goal.at.loop-j-preserved c).After-either in
+    raised_more (f (q e)) c.loop-j.invariant (omega arith) (ap (λ (k : ℕ). get_or c.args.amounts.now k (pos 0)) c.either.ensures) (ap (set c.loop-j.line c.loop-j.j) (sum_is (x e) (y e) (small e) (few e)))
+
+pub returns : goal.returns
+returns c = raised_all (f (goal.at.returns c).Start) c.loop-j.invariant (omega arith)

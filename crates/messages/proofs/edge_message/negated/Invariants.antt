@@ -6,6 +6,3 @@ use Rattle.messages.proofs.edge_message.negated.Given as goal
 
 abbrev pub invariant-loop-k : goal.invariant-loop-k
 invariant-loop-k l = Overwritten (λ j. neg_ℤ (get_or l.amounts j (pos 0))) 16 zeros l.k l.taken
-
-abbrev pub decreases-loop-k : goal.decreases-loop-k
-decreases-loop-k l = 16 - l.k

@@ -1,5 +1,5 @@
 -- `node_amounts` meets its contract. The loop's invariant: the first k places hold what those positions give, and the others 0.
-use Rattle.std.proofs.Common.{◌≡◌, get_or, ℤ, pos, ◌-ℤ◌, ◌∙◌, ap₂, w64, to_z, of_z, to_z-of_z, rules}
+use Rattle.std.proofs.Common.{◌≡◌, get_or, ℤ, pos, ◌-ℤ◌, ◌∙◌, ap₂, w64, to_z, of_z, arith, to_z-of_z, rules}
 use Rattle.integers.specs.Least.{least_of}
 use Rattle.integers.specs.Share.{share}
 use Rattle.integers.proofs.Bits.{answer}
@@ -22,13 +22,13 @@ share_of-requires c =
 
 pub loop-k-preserved : goal.loop-k-preserved
 loop-k-preserved c =
-    written_more c.loop-k.invariant c.loop-k-test.true
+    written_more c.loop-k.invariant (omega arith)
     (answer c.share_of.type_inv c.share_of.ensures
     ∙ ap₂ (λ (x b : ℤ). share (x -ℤ b) c.args.share) (to_z-of_z {w = w64} {z = get_or c.args.row.now c.loop-k.k (pos 0)} (search rules)) (low (goal.at.loop-k-preserved c).After-least_of-low))
 
 pub returns : goal.returns
 returns c =
-    written_all c.loop-k.invariant c.loop-k-test.false ∙ node_is c.args.row.now c.args.share c.requires.row_nonzero.1
+    written_all c.loop-k.invariant (omega arith) ∙ node_is c.args.row.now c.args.share c.requires.row_nonzero.1
 
 pub least_of-low-requires : goal.least_of-low-requires
 least_of-low-requires c = c.requires.row_nonzero.0

@@ -8,6 +8,3 @@ use Rattle.messages.proofs.edge_message.node_amounts.Given as goal
 
 abbrev pub invariant-loop-k : goal.invariant-loop-k
 invariant-loop-k l = Overwritten (λ j. share (get_or l.row j (pos 0) -ℤ least_of l.row) l.share) (length l.row) zeros l.k l.amounts
-
-abbrev pub decreases-loop-k : goal.decreases-loop-k
-decreases-loop-k l = length l.row - l.k

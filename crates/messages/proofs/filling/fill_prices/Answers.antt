@@ -12,8 +12,3 @@ pub loop-i-preserved : goal.loop-i-preserved
 loop-i-preserved c =
     let a = c.args in
     rw (same c.price_at.result c.price_at.type_inv ∙ c.price_at.ensures) (fill_more (λ k. price_at a.sheet.now (a.at + 4 * k)) (pos 0) c.loop-i.invariant (omega arith))
-
-pub returns : goal.returns
-returns c =
-    let a = c.args in
-    fill_all (λ k. price_at a.sheet.now (a.at + 4 * k)) c.loop-i.invariant (omega arith)

@@ -1,11 +1,8 @@
 -- `fill_prices` meets its contract: the four bytes of each price are there.
-use Rattle.std.proofs.Common.{◌+◌, ◌-◌, ◌*◌, length}
+use Rattle.std.proofs.Common.{◌+◌, ◌*◌}
 use Rattle.instance.specs.Bytes.{price_at}
 use Rattle.integers.proofs.Filling.{Filling}
 use Rattle.messages.proofs.filling.fill_prices.Given as goal
 
 abbrev pub invariant-loop-i : goal.invariant-loop-i
 invariant-loop-i l = Filling (λ k. price_at l.sheet (l.at + 4 * k)) l.initial.costs l.costs l.i
-
-abbrev pub decreases-loop-i : goal.decreases-loop-i
-decreases-loop-i l = length l.initial.costs - l.i

@@ -1,0 +1,8 @@
+-- `excess_line` meets its contract: what each cell gives is joined.
+use Rattle.std.proofs.Common.{cond, length, get_or, pos, ◌+ℤ◌}
+use Rattle.integers.specs.Checks.{within}
+use Rattle.messages.proofs.ExcessLaws.{Joining}
+use Rattle.messages.proofs.edge_message.excess_line.Given as goal
+
+abbrev pub invariant-loop-j : goal.invariant-loop-j
+invariant-loop-j l = Joining (λ i. within l.limit (get_or l.line i (pos 0) +ℤ get_or l.amounts (cond l.by_row l.k i) (pos 0))) (length l.line) l.j l.all
