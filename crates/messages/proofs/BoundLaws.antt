@@ -19,66 +19,58 @@ use Rattle.instance.proofs.LaidOut.{row_inside}
 use Rattle.rules.specs.Calls.{cost_limit}
 use Rattle.rules.specs.Places.{node_places, label_places}
 use Rattle.rules.specs.Costs.{Buffers, costs_of, node_least, edge_least, label_least}
-use Rattle.messages.specs.declared.view.View.{View}
+use Rattle.instance.specs.declared.sheet.Sheet.{Sheet}
+use Rattle.instance.proofs.Sheets.{proper, nodes_is, labels_is, edges_is}
 use Rattle.messages.specs.Lent.{lent, NodeFits, EdgeFits}
-use Rattle.messages.specs.Seen.{Viewed}
 use Rattle.messages.specs.Bounds.{row_least, table_least, label_below, least_labels}
-use Rattle.messages.proofs.SheetLaws.{proper}
 use Rattle.messages.proofs.EndLaws.{usable_cells_lem}
 use Rattle.messages.proofs.SumLaws.{Parts}
 use Rattle.messages.proofs.LabelLaws.{leasts_at}
 
-module _ {s : List ℕ} {v : View} (w : Viewed s v) where
+module _ (x : Sheet) where
+  abbrev s : List ℕ
+  s = x.bytes.now
+
   abbrev I : Instance
   I = instance_of s
 
-  good : Proper I
-  good = proper s w.readable
-
-  pub labels_few_lem : v.labels ≤ 64
-  labels_few_lem = omega (arith, w.labels, good.labels_few)
-
   -- the parts of the lent costs
-  pub node_parts : {costs : List ℤ} → NodeFits s costs → Parts I.degree costs v.nodes
+  pub node_parts : {costs : List ℤ} → NodeFits s costs → Parts I.degree costs x.nodes
   unfolding first
-  node_parts f = record { long = f.size ∙ ap (offset I.degree) (sym w.nodes); within = f.range }
+  node_parts f = record { long = f.size ∙ ap (offset I.degree) (sym (nodes_is x)); within = f.range }
 
-  pub edge_parts : {costs : List ℤ} → EdgeFits s costs → Parts (table_size I) costs v.edges
+  pub edge_parts : {costs : List ℤ} → EdgeFits s costs → Parts (table_size I) costs x.edges
   unfolding table
-  edge_parts f = record { long = f.size ∙ ap (offset (table_size I)) (sym w.edges); within = f.range }
-
-  -- each node has a cost
-  pub row_some : {u : ℕ} → u < v.nodes → 1 ≤ I.degree u
-  row_some {u} h = good.labelled u (omega (arith, w.nodes))
+  edge_parts f = record { long = f.size ∙ ap (offset (table_size I)) (sym (edges_is x)); within = f.range }
 
 -- ---- the whole bound
 
-module _ {s : List ℕ} {v : View} (w : Viewed s v) {nodes labels edges : List ℤ} (fn : NodeFits s nodes) (fl : NodeFits s labels) (fe : EdgeFits s edges) where
+module _ (x : Sheet) {nodes labels edges : List ℤ} (fn : NodeFits (s x) nodes) (fl : NodeFits (s x) labels) (fe : EdgeFits (s x) edges) where
   abbrev buffers : Buffers
   buffers = lent nodes labels edges []
 
   abbrev J : Instance
-  J = instance_of s
+  J = instance_of (s x)
 
-  pub by_node : total v.nodes (row_least J nodes) ≡ total J.node_count (node_least J (costs_of buffers))
+  pub by_node : total x.nodes (row_least J nodes) ≡ total J.node_count (node_least J (costs_of buffers))
   unfolding node_least node_places
   by_node =
-      ap (λ (m : ℕ). total m (row_least J nodes)) w.nodes
+      ap (λ (m : ℕ). total m (row_least J nodes)) (nodes_is x)
       ∙ total_ext J.node_count (row_least J nodes) (node_least J (costs_of buffers))
       (λ u h. ap least_of (sym (range-part nodes (pos 0) (first J u) (J.degree u) (omega (arith, fn.size, row_inside J h)))))
 
-  pub by_edge : total v.edges (table_least s edges) ≡ total J.edge_count (edge_least J (costs_of buffers))
+  pub by_edge : total x.edges (table_least (s x) edges) ≡ total J.edge_count (edge_least J (costs_of buffers))
   unfolding edge_least
   by_edge =
-      ap (λ (m : ℕ). total m (table_least s edges)) w.edges
-      ∙ total_ext J.edge_count (table_least s edges) (edge_least J (costs_of buffers)) (λ e h. ap least_of (usable_cells_lem s w.readable h edges fe.size true))
+      ap (λ (m : ℕ). total m (table_least (s x) edges)) (edges_is x)
+      ∙ total_ext J.edge_count (table_least (s x) edges) (edge_least J (costs_of buffers)) (λ e h. ap least_of (usable_cells_lem (s x) x.readable h edges fe.size true))
 
-  pub by_label : total v.labels (λ l. get_or (least_labels J labels (node_cells J)) l (pos 0)) ≡ total J.label_count (label_least J (costs_of buffers))
+  pub by_label : total x.labels (λ l. get_or (least_labels J labels (node_cells J)) l (pos 0)) ≡ total J.label_count (label_least J (costs_of buffers))
   unfolding label_least label_places
   by_label =
-      ap (λ (m : ℕ). total m (λ l. get_or (least_labels J labels (node_cells J)) l (pos 0))) w.labels
+      ap (λ (m : ℕ). total m (λ l. get_or (least_labels J labels (node_cells J)) l (pos 0))) (labels_is x)
       ∙ total_ext J.label_count (λ l. get_or (least_labels J labels (node_cells J)) l (pos 0)) (label_least J (costs_of buffers))
-      (λ l h. leasts_at J labels (node_cells J) l (omega (arith, (good w).labels_few)))
+      (λ l h. leasts_at J labels (node_cells J) l (omega (arith, (proper x).labels_few)))
 
 -- each label's least is within what its costs are
 pub leasts_within : (J : Instance) (labels : List ℤ) → Within cost_limit labels → (i : ℕ) → Within cost_limit (least_labels J labels i)

@@ -23,13 +23,14 @@ use Rattle.rules.specs.Messages.{node_to_edge, edge_to_node, to_edge, deltas, sh
 use Rattle.rules.specs.Run.{refused, done, checked}
 use Rattle.rules.specs.Calls.{cost_limit}
 use Rattle.rules.proofs.Bridge.{moved_edge, touched_edge}
-use Rattle.messages.specs.declared.view.View.{View}
 use Rattle.messages.specs.Lent.{lent}
-use Rattle.messages.specs.Seen.{labels_of}
+use Rattle.instance.specs.declared.sheet.Sheet.{Sheet}
+use Rattle.instance.specs.Described.{labels_of}
+use Rattle.instance.proofs.Sheets as sheet
 use Rattle.messages.specs.Step.{Settled, settle, settled}
 use Rattle.messages.specs.EdgeMessage.{position_in, node_amounts, width_of, usable_of, usable_cells, cells_at, edge_amounts, moved_row, moved_cells, Ends}
 use Rattle.messages.specs.EdgeRecord.{EdgeMove, edge_move, edge_amount, given_row, given_cells, moved_by, edge_moved, EdgeLegal, Joined, amounts_of, parts_moved}
-use Rattle.messages.proofs.SheetLaws.{proper, start_is, table_is}
+use Rattle.messages.proofs.SheetLaws.{proper}
 use Rattle.messages.proofs.EndLaws.{end_is, end_below, labels_length, width_is, both_sizes, usable_places_lem, cells-length, cells_at_lem, usable_below, usable_cells_lem, ends_of}
 use Rattle.messages.proofs.EdgeLaws.{node_within, edge_within}
 
@@ -175,12 +176,21 @@ module _ (I : Instance) where
 
 -- ---- a record that names what exists, as the code reads the sheet
 
-module _ {s : List ℕ} {v : View} {starts tables : List ℕ} {nodes edges : List ℤ} {u e r : ℕ} (g : EdgeLegal s v starts tables nodes edges u e r) where
+module _ (x : Sheet) {nodes edges : List ℤ} {u e r : ℕ} (g : EdgeLegal x.bytes.now nodes edges u e r) where
+  abbrev s : List ℕ
+  s = x.bytes.now
+
   abbrev J : Instance
   J = instance_of s
 
   sound : Proper J
-  sound = proper s g.seen.viewed.readable
+  sound = sheet.proper x
+
+  pub node_here : u < x.nodes
+  node_here = omega (arith, sheet.nodes_is x, g.node)
+
+  pub edge_here : e < x.edges
+  edge_here = omega (arith, sheet.edges_is x, g.edge)
 
   pub legal_node : u < 64
   legal_node = omega (arith, g.node, sound.nodes_few)
@@ -191,19 +201,19 @@ module _ {s : List ℕ} {v : View} {starts tables : List ℕ} {nodes edges : Lis
   -- what the code reads: the labels of u, those of the other end, and whether u is the lower one
   module _ {b : Bool} {own other : List ℕ} (eb : b ≡ eqb u (J.low e)) (eo : own ≡ labels_of s u) (et : other ≡ labels_of s (cond b (J.high e) (J.low e))) where
     abbrev a : ℕ
-    a = get_or starts u 0
+    a = get_or x.starts u 0
 
     abbrev c : ℕ
-    c = get_or tables e 0
+    c = get_or x.tables e 0
 
     abbrev readable : refusal_of s ≡ 0
-    readable = g.seen.viewed.readable
+    readable = x.readable
 
     ea : a ≡ first J u
-    ea = start_is s g.seen.begun readable g.node
+    ea = sheet.start_is x node_here
 
     ec : c ≡ table J e
-    ec = table_is s g.seen.tabled readable g.edge
+    ec = sheet.table_is x edge_here
 
     ed : length own ≡ J.degree u
     ed = ap length eo ∙ labels_length s readable g.node

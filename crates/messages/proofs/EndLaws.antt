@@ -18,7 +18,7 @@ use Rattle.instance.proofs.LaidOut.{row_inside, table_inside, low_inside}
 use Rattle.instance.proofs.UsableCells.{usable_sym}
 use Rattle.rules.specs.Places.{end_place, edge_places, usable_cell, usable_places}
 use Rattle.rules.proofs.Places.{cell_row, cell_column}
-use Rattle.messages.specs.Seen.{labels_of}
+use Rattle.instance.specs.Described.{labels_of}
 use Rattle.messages.specs.Clash.{Rising}
 use Rattle.messages.specs.EdgeMessage.{position_in, width_of, usable_in, usable_of, usable_cells, Shape, Ends}
 use Rattle.messages.proofs.SheetLaws.{whole, proper}

@@ -15,14 +15,12 @@ use Rattle.index.specs.Index.{having, many, Indexed}
 use Rattle.index.proofs.Indexed.{many_is}
 use Rattle.index.proofs.Lists.{select_next, select_past, at_place}
 use Rattle.instance.specs.Instance.{Instance, first, table_size, table, cell}
-use Rattle.instance.specs.Sheet.{instance_of}
+use Rattle.instance.specs.Sheet.{instance_of, refusal_of}
 use Rattle.instance.proofs.LaidOut.{table_inside}
 use Rattle.rules.specs.Calls.{cost_limit}
 use Rattle.rules.specs.Costs.{Costs, position}
 use Rattle.rules.specs.Rounding.{key}
-use Rattle.messages.specs.declared.view.View.{View}
 use Rattle.messages.specs.Lent.{EdgeFits}
-use Rattle.messages.specs.Seen.{Viewed}
 use Rattle.messages.specs.Rounded.{costs_by, added, keys_at, edge_row, Placed}
 use Rattle.messages.proofs.SheetLaws.{proper}
 
@@ -234,11 +232,10 @@ module _ {key : ℕ → ℕ} {m : ℕ} {index : List ℕ} (x : Indexed key m ind
 row_end : (d a p : ℕ) → p < a → d * p + d ≤ a * d
 row_end d a p h = omega (arith, mul-suc d p, mul_comm a d, mul-le-mul_left d h)
 
-pub row_room : {s : List ℕ} {v : View} → Viewed s v → {edges : List ℤ} → EdgeFits s edges → (x : List ℕ) {u : ℕ} → Placed s x u → {e : ℕ} → e < v.edges → (instance_of s).high e ≡ u
+pub row_room : (s : List ℕ) → refusal_of s ≡ 0 → {edges : List ℤ} → EdgeFits s edges → (x : List ℕ) {u : ℕ} → Placed s x u → {e : ℕ} → e < (instance_of s).edge_count → (instance_of s).high e ≡ u
     → table (instance_of s) e + (instance_of s).degree ((instance_of s).high e) * position x ((instance_of s).low e) + (instance_of s).degree ((instance_of s).high e) ≤ length edges
 unfolding table_size
-row_room {s} w f x placed {e} h q =
+row_room s r f x placed {e} h q =
     let J = instance_of s in
-    let k : e < J.edge_count = omega (arith, w.edges) in
-    let p = placed (J.low e) (omega (arith, (proper s w.readable).ordered e k)) in
-    omega (arith, row_end (J.degree (J.high e)) (J.degree (J.low e)) (position x (J.low e)) p, table_inside J k, f.size)
+    let p = placed (J.low e) (omega (arith, (proper s r).ordered e h)) in
+    omega (arith, row_end (J.degree (J.high e)) (J.degree (J.low e)) (position x (J.low e)) p, table_inside J h, f.size)

@@ -1,4 +1,4 @@
--- What a readable sheet and the lent buffers are known by: what reading answered, the refusal case by case, and what follows where there is none.
+-- What a readable sheet and the lent buffers are known by: the refusal case by case, and what follows where there is none.
 -- Assumes nothing.
 use Rattle.std.proofs.Common.{◌≡◌, ℕ, ◌≤◌, Bool, true, false, cond, ◌&&◌, ◌||◌, eqb, List, length, ℤ, sym, ap, ◌∙◌, arith, eq-eqb, ne_eqb, eqb-true}
 use Rattle.integers.specs.Sum.{Within}
@@ -8,51 +8,12 @@ use Rattle.integers.proofs.Places.{by-test, if-true, if-false, and_true}
 use Rattle.integers.proofs.Checks.{failure_append}
 use Rattle.instance.specs.Instance.{Instance, first}
 use Rattle.instance.specs.Sheet.{instance_of, checks, refusal_of}
-use Rattle.instance.specs.Layout.{refused_by, described, answer_of, layout_of}
-use Rattle.instance.specs.declared.reading.Layout.{Layout}
-use Rattle.instance.proofs.LaidOut.{LaidOut, refusal_is, laid_out}
 use Rattle.instance.proofs.Shown.{checks-numbered}
 use Rattle.rules.specs.Costs.{Buffers, in_range}
 use Rattle.rules.specs.Calls.{lengths_ok, is_matching, incumbent_ok, lent_checks, lent_refusal, cost_limit}
 use Rattle.messages.specs.Lent.{NodeFits, EdgeFits}
-use Rattle.messages.specs.Seen.{view_of, Viewed, Seen}
 use Rattle.messages.proofs.RowLaws.{all_within}
 use Rattle.rules.proofs.Opening.{lengths_are}
-
--- ---- what reading answered of a readable sheet
-
-module _ (s : List ℕ) {l : Layout} (q : l ≡ layout_of s) (e : l.refusal ≡ 0) where
-  pub unrefused : refusal_of s ≡ 0
-  unrefused = sym (refusal_is s q) ∙ e
-
-  pub laid : LaidOut s l
-  laid = laid_out s q e
-
-  described_is : l ≡ described s
-  unfolding layout_of answer_of
-  described_is = q ∙ if-true (described s) (refused_by (refusal_of s)) (eq-eqb (refusal_of s) 0 unrefused)
-
-  module _ (limit : ℕ) (h : limit ≤ cost_limit) where
-    pub viewed_of : Viewed s (view_of l limit)
-    unfolding first instance_of
-    viewed_of = record {
-      readable = unrefused;
-      nodes = laid.nodes;
-      labels = laid.labels;
-      edges = laid.edges;
-      prices = omega (arith, laid);
-      ends = omega (arith, laid);
-      cells = omega (arith, laid);
-      limit = h;
-    }
-
-    pub seen_of : Seen s (view_of l limit) l.starts l.tables
-    unfolding described
-    seen_of = record {
-      viewed = viewed_of;
-      begun = ap (λ (x : Layout). x.starts) described_is;
-      tabled = ap (λ (x : Layout). x.tables) described_is;
-    }
 
 -- ---- the refusal, case by case
 

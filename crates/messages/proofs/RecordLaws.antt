@@ -7,9 +7,7 @@ use Rattle.instance.specs.Instance.{Instance, exclusive, first}
 use Rattle.instance.specs.Sheet.{instance_of, refusal_of}
 use Rattle.rules.specs.Run.{legal_share, legal_edge, legal_position}
 use Rattle.rules.proofs.Run.{legal_edge_is, legal_position_is}
-use Rattle.messages.specs.declared.view.View.{View}
 use Rattle.messages.specs.Lent.{NodeFits, EdgeFits}
-use Rattle.messages.specs.Seen.{Seen}
 use Rattle.messages.specs.LabelMessage.{label_move, label_moved, label_given, PlaceAsked}
 use Rattle.messages.specs.EdgeRecord.{edge_move, edge_moved, EdgeLegal}
 use Rattle.messages.specs.Records.{label_taken, edge_taken}
@@ -92,10 +90,10 @@ module _ (I : Instance) (limit : ℕ) (nodes labels : List ℤ) (turned : Bool) 
   label_refused h = sym (if-false (label_moved limit nodes labels (first I u + k) (label_given I nodes labels turned u (first I u + k) r)) (label_move 12 nodes labels) h)
 
 -- what the moves ask
-pub edge_legal : {s : List ℕ} {v : View} {starts tables : List ℕ} → Seen s v starts tables → {nodes edges : List ℤ} → NodeFits s nodes → EdgeFits s edges → (u e r : ℕ) → legal_edge (instance_of s) u e r ≡ true → EdgeLegal s v starts tables nodes edges u e r
-edge_legal {s} w f g u e r h =
+pub edge_legal : {s : List ℕ} {nodes edges : List ℤ} → NodeFits s nodes → EdgeFits s edges → (u e r : ℕ) → legal_edge (instance_of s) u e r ≡ true → EdgeLegal s nodes edges u e r
+edge_legal {s} f g u e r h =
     let (a, b, c, d) = legal_edge_is (instance_of s) u e r h in
-    record { seen = w; node_costs = f; edge_costs = g; node = b; edge = c; touches = d; shares = a }
+    record { node_costs = f; edge_costs = g; node = b; edge = c; touches = d; shares = a }
 
 pub place_asked : (s : List ℕ) → refusal_of s ≡ 0 → (at u k r : ℕ) → at ≡ first (instance_of s) u → legal_position (instance_of s) u k r ≡ true → PlaceAsked s at u k r
 place_asked s w at u k r e h =

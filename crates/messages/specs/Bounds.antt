@@ -5,7 +5,7 @@ use Rattle.integers.specs.Rows.{part}
 use Rattle.integers.specs.Places.{range, select, tabulate}
 use Rattle.instance.specs.Instance.{Instance, first, table_size, table}
 use Rattle.instance.specs.Sheet.{instance_of}
-use Rattle.messages.specs.Seen.{labels_of}
+use Rattle.instance.specs.Described.{labels_of}
 use Rattle.messages.specs.EdgeMessage.{usable_cells}
 
 -- the least cost of node u

@@ -11,9 +11,7 @@ use Rattle.instance.specs.Instance.{Instance, first, table_size, table}
 use Rattle.instance.specs.Sheet.{instance_of}
 use Rattle.rules.specs.Places.{end_place, end_places, node_places, usable_places}
 use Rattle.rules.specs.Calls.{cost_limit}
-use Rattle.messages.specs.declared.view.View.{View}
 use Rattle.messages.specs.Lent.{NodeFits, EdgeFits}
-use Rattle.messages.specs.Seen.{Seen}
 use Rattle.messages.specs.EdgeMessage.{node_amounts, edge_amounts, moved_row, moved_cells, Ends}
 
 -- node costs and edge costs that a move leaves, with its refusal: 0, or 13 where a cost would pass the limit and nothing is written
@@ -54,8 +52,7 @@ module _ (I : Instance) (nodes edges : List ℤ) where
   edge_moved limit turned u e r = moved_by limit u e (edge_amount turned u e r)
 
 -- a record that names what exists, and lent costs that fit: u is an end of edge e
-pub record EdgeLegal (s : List ℕ) (v : View) (starts tables : List ℕ) (nodes edges : List ℤ) (u e r : ℕ) : Type 0 where
-  pub seen : Seen s v starts tables
+pub record EdgeLegal (s : List ℕ) (nodes edges : List ℤ) (u e r : ℕ) : Type 0 where
   pub node_costs : NodeFits s nodes
   pub edge_costs : EdgeFits s edges
   pub node : u < (instance_of s).node_count

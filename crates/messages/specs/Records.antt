@@ -1,14 +1,42 @@
 -- One record, kind by kind: refused with 12 where what it names does not exist, else what its kind leaves.
-use Rattle.std.specs.Prelude.{ℕ, ◌+◌, ◌*◌, Bool, cond, List, ℤ, slice_index}
+use Rattle.std.specs.Prelude.{Option, Some, None, ℕ, ◌+◌, ◌*◌, Bool, cond, List, ℤ, slice_index}
 use Rattle.instance.specs.Instance.{Instance, first}
-use Rattle.rules.specs.Run.{legal_position, legal_edge}
+use Rattle.rules.specs.Messages as rules
+use Rattle.rules.specs.Run as runs
+use Rattle.rules.specs.Run.{kind_of, legal_position, legal_edge}
+use Rattle.messages.specs.declared.records.Way.{Way}
+use Rattle.messages.specs.declared.records.Way.TheVariants.{NodeToEdge, EdgeToNode, NodeToLabel, LabelToNode}
+use Rattle.messages.specs.declared.records.Kind.{Kind}
+use Rattle.messages.specs.declared.records.Kind.TheVariants.{Message, Rounding}
 use Rattle.messages.specs.declared.records.Record.{Record}
 use Rattle.messages.specs.LabelMessage.{Moved, label_move, label_moved, label_given}
 use Rattle.messages.specs.EdgeRecord.{EdgeMove, edge_move, edge_moved}
 
--- the first five bytes as a record
-abbrev pub head_of : List ℕ → Record
-head_of l = record { kind = slice_index l 0; node = slice_index l 1; index = slice_index l 2 + 256 * slice_index l 3; share = slice_index l 4 }
+-- the rules' message, and the rules' kind as the code has it: none for one that does not exist
+abbrev pub way_of : Way → rules.Message
+way_of NodeToEdge = rules.node_to_edge
+way_of EdgeToNode = rules.edge_to_node
+way_of NodeToLabel = rules.node_to_label
+way_of LabelToNode = rules.label_to_node
+
+abbrev pub way_as : rules.Message → Way
+way_as rules.node_to_edge = NodeToEdge
+way_as rules.edge_to_node = EdgeToNode
+way_as rules.node_to_label = NodeToLabel
+way_as rules.label_to_node = LabelToNode
+
+abbrev pub kind_as : runs.Kind → Option Kind
+kind_as (runs.message m) = Some (Message (way_as m))
+kind_as runs.rounding = Some Rounding
+kind_as runs.unknown = None
+
+-- the first five bytes as a record, if there is such a kind
+abbrev pub head_by : Option Kind → List ℕ → Option Record
+head_by None l = None
+head_by (Some kind) l = Some (record { kind = kind; node = slice_index l 1; index = slice_index l 2 + 256 * slice_index l 3; share = slice_index l 4 })
+
+abbrev pub head_of : List ℕ → Option Record
+head_of l = head_by (kind_as (kind_of (slice_index l 0))) l
 
 -- kind 3, or turned round kind 4
 unfoldable pub label_taken : Instance → ℕ → List ℤ → List ℤ → Bool → ℕ → ℕ → ℕ → Moved

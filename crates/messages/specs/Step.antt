@@ -1,9 +1,12 @@
 -- What one record leaves and answers.
-use Rattle.std.specs.Prelude.{ℕ}
+use Rattle.std.specs.Prelude.{Result, Ok, Err, ℕ, ◌+◌, ◌*◌, List, slice_index}
 use Rattle.rules.specs.Costs.{Buffers}
 use Rattle.instance.specs.Instance.{Instance}
+use Rattle.rules.specs.Run as runs
 use Rattle.rules.specs.Run.{Outcome, refused, done, kind_of, effect}
+use Rattle.messages.specs.declared.records.Way.{Way}
 use Rattle.messages.specs.declared.records.Record.{Record}
+use Rattle.messages.specs.Records.{way_of}
 
 pub record Settled : Type 0 where
   pub buffers : Buffers
@@ -19,6 +22,18 @@ abbrev pub settled : Buffers → Outcome → Settled
 settled b (refused number) = settle b 0 number
 settled b (done b' s) = settle b' s 0
 
--- what a record leaves and answers by the rules
-abbrev pub settled_by : Instance → ℕ → Buffers → Record → Settled
-settled_by I limit b r = settled b (effect I limit b (kind_of r.kind) r.node r.index r.share)
+-- how many roundings were stuck, by what the code answers
+abbrev pub stuck_in : {E : Type 0} → Result ℕ E → ℕ
+stuck_in (Ok n) = n
+stuck_in (Err e) = 0
+
+-- what a record of some kind leaves and answers by the rules
+abbrev pub settled_as : Instance → ℕ → Buffers → runs.Kind → ℕ → ℕ → ℕ → Settled
+settled_as I limit b kind u k r = settled b (effect I limit b kind u k r)
+
+-- the same of a message, and of the record in five bytes
+abbrev pub messaged : Instance → ℕ → Buffers → Way → Record → Settled
+messaged I limit b way r = settled_as I limit b (runs.message (way_of way)) r.node r.index r.share
+
+abbrev pub settled_by : Instance → ℕ → Buffers → List ℕ → Settled
+settled_by I limit b l = settled_as I limit b (kind_of (slice_index l 0)) (slice_index l 1) (slice_index l 2 + 256 * slice_index l 3) (slice_index l 4)

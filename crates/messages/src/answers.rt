@@ -1,17 +1,18 @@
-// What a report answers.
-#[derive(Clone, Copy)]
+// What a report and a run answer.
+use instance::Refusal;
+
+#[derive(Clone, Copy, Debug, PartialEq, Eq)]
 pub enum Report {
-    Refused(u8),
     // the bound, with none kept
     Bound(i64),
     // the bound, the kept matching's cost on the sheet, and the gap
     Kept(i64, i64, i64),
 }
 
-// What a run answers: how many records it finished, how many roundings were stuck, and the refusal that stopped it.
-#[derive(Clone, Copy)]
+// How many records a run finished, how many roundings were stuck, and the refusal that stopped it.
+#[derive(Clone, Copy, Debug, PartialEq, Eq)]
 pub struct Answer {
     pub done: usize,
     pub stuck: usize,
-    pub refusal: u8,
+    pub refusal: Option<Refusal>,
 }

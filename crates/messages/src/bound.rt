@@ -8,85 +8,64 @@ ghost use Rattle.instance.specs.Instance.{node_cells, table_size};
 ghost use Rattle.rules.specs.Held.{bound_in};
 ghost use Rattle.rules.specs.Calls.{cost_limit};
 ghost use Rattle.messages.specs.Lent.{lent, Fits, NodeFits, EdgeFits};
-ghost use Rattle.messages.specs.Seen.{Viewed, starts_of, labels_of};
+ghost use Rattle.instance.specs.Described.{labels_of};
 ghost use Rattle.messages.specs.EdgeMessage.{usable_cells};
 ghost use Rattle.messages.specs.Bounds.{row_least, table_least, least_labels};
 
 use crate::rows::{least_of, plus, smaller};
 use crate::usable::usable_least;
-use crate::view::{View, degree_of, high_end, label_at, labels_of, low_end};
+use instance::Sheet;
 
 // The sum of each node's least cost.
-fn node_sum(sheet: &[u8], view: View, nodes: &[i64]) -> i64
-    requires viewed { Viewed sheet.now view }
-    requires node_fits { NodeFits sheet.now nodes.now }
-    ensures { (result ≡ total view.nodes (row_least (instance_of sheet.now) nodes.now)) × (unsigned_abs result ≤ view.nodes * cost_limit) }
+fn node_sum(sheet: &Sheet, nodes: &[i64]) -> i64
+    requires { NodeFits sheet.now.bytes.now nodes.now }
+    ensures { (result ≡ total sheet.now.nodes (row_least (instance_of sheet.now.bytes.now) nodes.now)) × (unsigned_abs result ≤ sheet.now.nodes * cost_limit) }
 {
-    let count = view.nodes;
     let mut sum = 0;
     let mut at = 0;
-    let mut u = 0;
-    while u < count {
-        let to = at + degree_of(sheet, u);
+    for u in 0..sheet.nodes {
+        let to = at + sheet.degree(u);
         sum = plus(sum, least_of(&nodes[at..to]));
         at = to;
-        u += 1;
     }
     sum
 }
 
-// How many cells edge `e` has.
-fn size_of(sheet: &[u8], view: View, e: usize) -> usize
-    requires { Viewed sheet.now view × (e < view.edges) }
-    ensures { result ≡ table_size (instance_of sheet.now) e }
-{
-    degree_of(sheet, low_end(sheet, view, e)) * degree_of(sheet, high_end(sheet, view, e))
-}
-
 // The least usable of the cells of edge `e`.
-fn cell_least(sheet: &[u8], view: View, starts: &[usize; 64], cells: &[i64], e: usize) -> i64
-    requires viewed { Viewed sheet.now view × (starts.now ≡ starts_of sheet.now) × (e < view.edges) }
-    requires fits { Fits (table_size (instance_of sheet.now) e) cells.now }
-    ensures { result ≡ least_of (usable_cells true (labels_of sheet.now ((instance_of sheet.now).low e)) (labels_of sheet.now ((instance_of sheet.now).high e)) cells.now) }
+fn cell_least(sheet: &Sheet, cells: &[i64], e: usize) -> i64
+    requires edge { e < sheet.now.edges }
+    requires fits { Fits (table_size (instance_of sheet.now.bytes.now) e) cells.now }
+    ensures { result ≡ least_of (usable_cells true (labels_of sheet.now.bytes.now ((instance_of sheet.now.bytes.now).low e)) (labels_of sheet.now.bytes.now ((instance_of sheet.now.bytes.now).high e)) cells.now) }
 {
-    let u = low_end(sheet, view, e);
-    let v = high_end(sheet, view, e);
-    let low = labels_of(sheet, view, starts[u], u);
-    let high = labels_of(sheet, view, starts[v], v);
+    let low = sheet.labels_of(sheet.low(e));
+    let high = sheet.labels_of(sheet.high(e));
     usable_least(cells, low, high)
 }
 
 // The sum of each edge's least usable cell.
-fn edge_sum(sheet: &[u8], view: View, starts: &[usize; 64], edges: &[i64]) -> i64
-    requires viewed { Viewed sheet.now view × (starts.now ≡ starts_of sheet.now) }
-    requires edge_fits { EdgeFits sheet.now edges.now }
-    ensures { (result ≡ total view.edges (table_least sheet.now edges.now)) × (unsigned_abs result ≤ view.edges * cost_limit) }
+fn edge_sum(sheet: &Sheet, edges: &[i64]) -> i64
+    requires { EdgeFits sheet.now.bytes.now edges.now }
+    ensures { (result ≡ total sheet.now.edges (table_least sheet.now.bytes.now edges.now)) × (unsigned_abs result ≤ sheet.now.edges * cost_limit) }
 {
-    let count = view.edges;
     let mut sum = 0;
     let mut at = 0;
-    let mut e = 0;
-    while e < count {
-        let to = at + size_of(sheet, view, e);
-        sum = plus(sum, cell_least(sheet, view, starts, &edges[at..to], e));
+    for e in 0..sheet.edges {
+        let to = at + sheet.size(e);
+        sum = plus(sum, cell_least(sheet, &edges[at..to], e));
         at = to;
-        e += 1;
     }
     sum
 }
 
 // For each label the least of 0 and its label costs; for 255 too, which no sum takes in.
-fn label_leasts(sheet: &[u8], view: View, labels: &[i64]) -> [i64; 256]
-    requires viewed { Viewed sheet.now view }
-    requires node_fits { NodeFits sheet.now labels.now }
-    ensures { result ≡ least_labels (instance_of sheet.now) labels.now (node_cells (instance_of sheet.now)) }
+fn label_leasts(sheet: &Sheet, labels: &[i64]) -> [i64; 256]
+    requires { NodeFits sheet.now.bytes.now labels.now }
+    ensures { result ≡ least_labels (instance_of sheet.now.bytes.now) labels.now (node_cells (instance_of sheet.now.bytes.now)) }
 {
     let mut least = [0i64; 256];
-    let mut i = 0;
-    while i < labels.len() {
-        let l = label_at(sheet, view, i);
-        least[l] = smaller(labels[i], least[l]);
-        i += 1;
+    for (i, cost) in labels.iter().enumerate() {
+        let l = sheet.label(i);
+        least[l] = smaller(*cost, least[l]);
     }
     least
 }
@@ -98,30 +77,20 @@ fn label_sum(least: &[i64; 256], count: usize) -> i64
     ensures { (result ≡ total count (λ l. slice_index_or least.now l (pos 0))) × (unsigned_abs result ≤ count * cost_limit) }
 {
     let mut sum = 0;
-    let mut l = 0;
-    while l < count {
+    for l in 0..count {
         sum = plus(sum, least[l]);
-        l += 1;
     }
     sum
 }
 
 // The bound of the lent costs.
-pub(crate) fn lower_bound(
-    sheet: &[u8],
-    view: View,
-    starts: &[usize; 64],
-    nodes: &[i64],
-    labels: &[i64],
-    edges: &[i64],
-) -> i64
-    requires viewed { Viewed sheet.now view × (starts.now ≡ starts_of sheet.now) }
-    requires node_fits { NodeFits sheet.now nodes.now × NodeFits sheet.now labels.now × EdgeFits sheet.now edges.now }
-    ensures { (result ≡ bound_in (instance_of sheet.now) (lent nodes.now labels.now edges.now [])) × (unsigned_abs result ≤ 384 * cost_limit) }
+pub(crate) fn lower_bound(sheet: &Sheet, nodes: &[i64], labels: &[i64], edges: &[i64]) -> i64
+    requires { NodeFits sheet.now.bytes.now nodes.now × NodeFits sheet.now.bytes.now labels.now × EdgeFits sheet.now.bytes.now edges.now }
+    ensures { (result ≡ bound_in (instance_of sheet.now.bytes.now) (lent nodes.now labels.now edges.now [])) × (unsigned_abs result ≤ 384 * cost_limit) }
 {
-    let least = label_leasts(sheet, view, labels);
-    let by_label = label_sum(&least, view.labels);
-    let by_node = node_sum(sheet, view, nodes);
-    let by_edge = edge_sum(sheet, view, starts, edges);
+    let least = label_leasts(sheet, labels);
+    let by_label = label_sum(&least, sheet.labels);
+    let by_node = node_sum(sheet, nodes);
+    let by_edge = edge_sum(sheet, edges);
     plus(plus(by_node, by_edge), by_label)
 }

@@ -1,6 +1,7 @@
 // Records of kinds 1 and 2: messages between a node and an edge that it ends. Document 01, kinds 1 and 2.
 ghost use Rattle.std.specs.Prelude.{◌≡◌, ◌^◌, ◌≤◌, length};
 ghost use Rattle.integers.specs.Sum.{Within};
+ghost use Rattle.instance.specs.Refusal.{refused_in};
 ghost use Rattle.instance.specs.Sheet.{instance_of};
 ghost use Rattle.rules.specs.Calls.{cost_limit};
 ghost use Rattle.messages.specs.EdgeMessage.{taken_of, Shape, width_of};
@@ -11,8 +12,7 @@ use crate::edge_message::{
 };
 use crate::records::Record;
 use crate::rows::OUT;
-use crate::view::{View, high_end, labels_of, low_end};
-use instance::refusal::{COST_OVERFLOW, NONE};
+use instance::{Refusal, Sheet};
 
 // What each position of the node gives, or turned round what each position of the edge's end does.
 fn amounts_of(
@@ -67,10 +67,10 @@ fn move_parts(
     turned: bool,
     share: u8,
     limit: u64,
-) -> u8
+) -> Result<(), Refusal>
     requires joined { Joined row.old cells.old by_row own.now other.now }
     requires le_share { (1 ≤ share) × (limit ≤ cost_limit) }
-    ensures { edge_move result row.new cells.new ≡ parts_moved limit (amounts_of turned by_row own.now other.now row.old cells.old share) row.old cells.old by_row (width_of by_row own.now other.now) }
+    ensures { edge_move (refused_in result) row.new cells.new ≡ parts_moved limit (amounts_of turned by_row own.now other.now row.old cells.old share) row.old cells.old by_row (width_of by_row own.now other.now) }
 {
     let width = either(by_row, other.len(), own.len());
     let height = either(by_row, own.len(), other.len());
@@ -79,37 +79,35 @@ fn move_parts(
     if both_fit(row, cells, width, height, by_row, &amounts, &taken, limit) {
         raise_each(row, &taken);
         move_cells(cells, width, height, by_row, &amounts);
-        NONE
+        Ok(())
     } else {
-        COST_OVERFLOW
+        Err(Refusal::CostOverflow)
     }
 }
 
 // A record of kind 1 between its node and its edge, or turned round of kind 2.
 pub(crate) fn move_edge(
-    sheet: &[u8],
-    view: View,
-    starts: &[usize; 64],
-    tables: &[usize; 256],
+    sheet: &Sheet,
+    limit: u64,
     nodes: &mut [i64],
     edges: &mut [i64],
     turned: bool,
     step: Record,
-) -> u8
-    requires { EdgeLegal sheet.now view starts.now tables.now nodes.old edges.old step.node step.index step.share }
-    ensures { edge_move result nodes.new edges.new ≡ edge_moved (instance_of sheet.now) nodes.old edges.old view.limit turned step.node step.index step.share }
+) -> Result<(), Refusal>
+    requires limited { limit ≤ cost_limit }
+    requires legal { EdgeLegal sheet.now.bytes.now nodes.old edges.old step.node step.index step.share }
+    ensures { edge_move (refused_in result) nodes.new edges.new ≡ edge_moved (instance_of sheet.now.bytes.now) nodes.old edges.old limit turned step.node step.index step.share }
 {
     let u = step.node;
     let e = step.index;
-    let low = low_end(sheet, view, e);
-    let high = high_end(sheet, view, e);
+    let low = sheet.low(e);
     let by_row = u == low;
-    let w = either(by_row, high, low);
-    let own = labels_of(sheet, view, starts[u], u);
-    let other = labels_of(sheet, view, starts[w], w);
-    let a = starts[u];
+    let w = either(by_row, sheet.high(e), low);
+    let own = sheet.labels_of(u);
+    let other = sheet.labels_of(w);
+    let a = sheet.starts[u];
     let b = a + own.len();
-    let c = tables[e];
+    let c = sheet.tables[e];
     let d = c + own.len() * other.len();
     move_parts(
         &mut nodes[a..b],
@@ -119,6 +117,6 @@ pub(crate) fn move_edge(
         by_row,
         turned,
         step.share,
-        view.limit,
+        limit,
     )
 }

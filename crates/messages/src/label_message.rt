@@ -7,23 +7,22 @@ ghost use Rattle.instance.specs.Sheet.{instance_of};
 ghost use Rattle.instance.specs.Instance.{exclusive, node_cells};
 ghost use Rattle.rules.specs.Calls.{cost_limit};
 ghost use Rattle.messages.specs.Lent.{NodeFits};
-ghost use Rattle.messages.specs.Seen.{Viewed};
-ghost use Rattle.index.specs.Index.{many, held};
+ghost use Rattle.instance.specs.Refusal.{refused_in};
+ghost use Rattle.index.specs.Index.{held};
 ghost use Rattle.messages.specs.LabelMessage.{label_moved, label_move, node_amount, label_amount, label_given, PlaceAsked, Holders};
 
 use crate::records::Record;
 use crate::rows::{amount_of, in_range, minus, plus, share_of, smaller};
-use crate::view::{View, degree_of, label_at};
-use index::number;
-use instance::refusal::{COST_OVERFLOW, NONE};
+use crate::run::Run;
+use instance::{Refusal, Sheet};
 
 // Moves `p` from the node cost to the label cost at the place `i`, where both stay within the limit.
-pub(crate) fn shift_label(nodes: &mut [i64], labels: &mut [i64], i: usize, p: i64, limit: u64) -> u8
+pub(crate) fn shift_label(nodes: &mut [i64], labels: &mut [i64], i: usize, p: i64, limit: u64) -> Result<(), Refusal>
     requires i_in_bounds { (i < length nodes.old) × (i < length labels.old) }
     requires within { Within cost_limit nodes.old }
     requires within_2 { Within cost_limit labels.old }
     requires p_bound { unsigned_abs p ≤ 2 ^ 41 }
-    ensures { label_move result nodes.new labels.new ≡ label_moved limit nodes.old labels.old i p }
+    ensures { label_move (refused_in result) nodes.new labels.new ≡ label_moved limit nodes.old labels.old i p }
 {
     let node = minus(nodes[i], p);
     let label = plus(labels[i], p);
@@ -31,10 +30,10 @@ pub(crate) fn shift_label(nodes: &mut [i64], labels: &mut [i64], i: usize, p: i6
         if in_range(label, limit) {
             nodes[i] = node;
             labels[i] = label;
-            return NONE;
+            return Ok(());
         }
     }
-    COST_OVERFLOW
+    Err(Refusal::CostOverflow)
 }
 
 // The less of `best` and the label cost at a place, unless the place is `own`.
@@ -49,77 +48,54 @@ fn meet(labels: &[i64], place: usize, own: usize, best: i64) -> i64
     }
 }
 
-// The least of 0 and the label's costs at other places than `own`. `holders` is the index of places by label.
-fn label_rival(labels: &[i64], holders: &[u16; 4160], label: usize, own: usize) -> i64
-    requires label_bound { (label < 64) × (many holders.now label ≤ 64) }
-    requires by_index { (j : ℕ) → j < many holders.now label → slice_index holders.now (65 * label + 1 + j) < length labels.now }
-    ensures { result ≡ least_from (pos 0) (map (λ j. slice_index_or labels.now j (pos 0)) (others own (held holders.now label))) }
+// The least of 0 and the label's costs at other places than `own`, of the places that have the label.
+fn label_rival(labels: &[i64], places: &[u16], own: usize) -> i64
+    requires { (j : ℕ) → j < length places.now → slice_index places.now j < length labels.now }
+    ensures { result ≡ least_from (pos 0) (map (λ j. slice_index_or labels.now j (pos 0)) (others own places.now)) }
 {
-    let row = 65 * label;
-    let end = row + 1 + number(holders[row]);
     let mut best = 0;
-    let mut at = row + 1;
-    while at < end {
-        best = meet(labels, number(holders[at]), own, best);
-        at += 1;
+    for place in places {
+        best = meet(labels, usize::from(*place), own, best);
     }
     best
 }
 
 // What the record's node cost gives to its label: kind 3. The node's costs begin at `at`.
-fn node_amount(sheet: &[u8], nodes: &[i64], at: usize, step: Record) -> i64
-    requires place_asked { PlaceAsked sheet.now at step.node step.index step.share }
-    requires node_fits { NodeFits sheet.now nodes.now }
-    ensures { result ≡ node_amount (instance_of sheet.now) nodes.now step.node (at + step.index) step.share }
+fn node_amount(sheet: &Sheet, nodes: &[i64], at: usize, step: Record) -> i64
+    requires place_asked { PlaceAsked sheet.now.bytes.now at step.node step.index step.share }
+    requires node_fits { NodeFits sheet.now.bytes.now nodes.now }
+    ensures { result ≡ node_amount (instance_of sheet.now.bytes.now) nodes.now step.node (at + step.index) step.share }
 {
-    let to = at + degree_of(sheet, step.node);
+    let to = at + sheet.degree(step.node);
     amount_of(&nodes[at..to], step.index, step.share)
 }
 
 // What the label cost at a place gives to the node: kind 4.
-fn label_amount(
-    sheet: &[u8],
-    view: View,
-    holders: &[u16; 4160],
-    labels: &[i64],
-    place: usize,
-    share: u8,
-) -> i64
-    requires viewed { Viewed sheet.now view × (place < node_cells (instance_of sheet.now)) × (1 ≤ share) × (exclusive ((instance_of sheet.now).label place) ≡ true) }
-    requires holders { Holders sheet.now holders.now }
-    requires node_fits { NodeFits sheet.now labels.now }
-    ensures { result ≡ label_amount (instance_of sheet.now) labels.now place share }
+fn label_amount(run: &Run, labels: &[i64], place: usize, share: u8) -> i64
+    requires place { (place < node_cells (instance_of run.now.sheet.bytes.now)) × (1 ≤ share) × (exclusive ((instance_of run.now.sheet.bytes.now).label place) ≡ true) }
+    requires node_fits { NodeFits run.now.sheet.bytes.now labels.now }
+    ensures { result ≡ label_amount (instance_of run.now.sheet.bytes.now) labels.now place share }
 {
-    let label = label_at(sheet, view, place);
-    share_of(
-        labels[place],
-        label_rival(labels, holders, label, place),
-        share,
-    )
+    let places = run.holders.row(run.sheet.label(place));
+    share_of(labels[place], label_rival(labels, places, place), share)
 }
 
 // What goes from the node cost to the label cost at the record's place: kind 3, or turned round kind 4.
 pub(crate) fn given(
-    sheet: &[u8],
-    view: View,
-    holders: &[u16; 4160],
+    run: &Run,
     nodes: &[i64],
     labels: &[i64],
     turned: bool,
     at: usize,
     step: Record,
 ) -> i64
-    requires viewed { Viewed sheet.now view × PlaceAsked sheet.now at step.node step.index step.share }
-    requires holders { Holders sheet.now holders.now }
-    requires node_fits { NodeFits sheet.now nodes.now × NodeFits sheet.now labels.now }
-    ensures { (result ≡ label_given (instance_of sheet.now) nodes.now labels.now turned step.node (at + step.index) step.share) × (unsigned_abs result ≤ 2 ^ 41) }
+    requires asked { PlaceAsked run.now.sheet.bytes.now at step.node step.index step.share }
+    requires node_fits { NodeFits run.now.sheet.bytes.now nodes.now × NodeFits run.now.sheet.bytes.now labels.now }
+    ensures { (result ≡ label_given (instance_of run.now.sheet.bytes.now) nodes.now labels.now turned step.node (at + step.index) step.share) × (unsigned_abs result ≤ 2 ^ 41) }
 {
     if turned {
-        minus(
-            0,
-            label_amount(sheet, view, holders, labels, at + step.index, step.share),
-        )
+        minus(0, label_amount(run, labels, at + step.index, step.share))
     } else {
-        node_amount(sheet, nodes, at, step)
+        node_amount(&run.sheet, nodes, at, step)
     }
 }

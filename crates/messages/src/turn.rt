@@ -1,83 +1,58 @@
 // One record of a run, by its kind.
-ghost use Rattle.std.specs.Prelude.{◌≡◌, ℕ, ◌<◌, ◌≤◌, List};
+ghost use Rattle.std.specs.Prelude.{◌≡◌, ℕ, List, length, ◌≤◌};
 ghost use Rattle.instance.specs.Sheet.{instance_of};
 ghost use Rattle.messages.specs.Lent.{lent, NodeFits, EdgeFits};
-ghost use Rattle.messages.specs.Seen.{Seen};
-ghost use Rattle.messages.specs.LabelMessage.{Holders};
-ghost use Rattle.messages.specs.Rounded.{Lowers};
-ghost use Rattle.messages.specs.Step.{settle, settled_by};
+ghost use Rattle.messages.specs.Step.{settle, messaged, settled_by, stuck_in};
 ghost use Rattle.messages.specs.Turn.{Good};
+ghost use Rattle.instance.specs.Refusal.{refused_in};
 
-use crate::records::{Record, edge_record, label_record};
-use crate::round_record::{Taken, round_record};
-use crate::view::View;
-use instance::refusal::NO_SUCH_RECORD;
+use crate::records::{Kind, Record, Way, edge_record, label_record};
+use crate::round_record::round_record;
+use crate::run::Run;
+use instance::Refusal;
 
-// Kinds 1 to 4; they leave the incumbent, whatever it is, alone.
+// A record of kinds 1 to 4; it leaves the incumbent, whatever it is, alone.
 fn message(
-    sheet: &[u8],
-    view: View,
-    starts: &[usize; 64],
-    tables: &[usize; 256],
-    holders: &[u16; 4160],
+    run: &Run,
     nodes: &mut [i64],
     labels: &mut [i64],
     edges: &mut [i64],
+    way: Way,
     step: Record,
-) -> u8
-    requires seen { Seen sheet.now view starts.now tables.now }
-    requires holders { Holders sheet.now holders.now }
-    requires node_fits { NodeFits sheet.now nodes.old × NodeFits sheet.now labels.old × EdgeFits sheet.now edges.old }
-    requires le_kind { (1 ≤ step.kind) × (step.kind < 5) }
-    ensures { (x : List ℕ) → Good sheet.now view.limit (lent nodes.old labels.old edges.old x) → settle (lent nodes.new labels.new edges.new x) 0 result ≡ settled_by (instance_of sheet.now) view.limit (lent nodes.old labels.old edges.old x) step }
+) -> Result<(), Refusal>
+    requires fits { NodeFits run.now.sheet.bytes.now nodes.old × NodeFits run.now.sheet.bytes.now labels.old × EdgeFits run.now.sheet.bytes.now edges.old }
+    ensures { (x : List ℕ) → Good run.now.sheet.bytes.now run.now.limit (lent nodes.old labels.old edges.old x) → settle (lent nodes.new labels.new edges.new x) 0 (refused_in result) ≡ messaged (instance_of run.now.sheet.bytes.now) run.now.limit (lent nodes.old labels.old edges.old x) way step }
 {
-    if step.kind < 3 {
-        let turned = step.kind == 2;
-        edge_record(sheet, view, starts, tables, nodes, edges, turned, step)
-    } else {
-        let turned = step.kind == 4;
-        label_record(sheet, view, starts, holders, nodes, labels, turned, step)
+    let sheet = &run.sheet;
+    match way {
+        Way::NodeToEdge => edge_record(sheet, run.limit, nodes, edges, false, step),
+        Way::EdgeToNode => edge_record(sheet, run.limit, nodes, edges, true, step),
+        Way::NodeToLabel => label_record(run, nodes, labels, false, step),
+        Way::LabelToNode => label_record(run, nodes, labels, true, step),
     }
 }
 
-// No rounding was stuck.
-fn refused(refusal: u8) -> Taken
-    ensures { (result.stuck ≡ 0) × (result.refusal ≡ refusal) }
-{
-    Taken { stuck: 0, refusal }
-}
-
-// A record of any kind; a kind that does not exist is refused.
+// A record in five bytes; a kind that does not exist is refused. How many roundings were stuck, 0 or 1.
 pub(crate) fn one_record(
-    sheet: &[u8],
-    view: View,
-    starts: &[usize; 64],
-    tables: &[usize; 256],
-    holders: &[u16; 4160],
-    lowers: &[u16; 4160],
+    run: &Run,
     nodes: &mut [i64],
     labels: &mut [i64],
     edges: &mut [i64],
     incumbent: &mut [u8],
-    step: Record,
-) -> Taken
-    requires seen { Seen sheet.now view starts.now tables.now }
-    requires holders { Holders sheet.now holders.now × Lowers sheet.now lowers.now }
-    requires good { Good sheet.now view.limit (lent nodes.old labels.old edges.old incumbent.old) }
-    ensures { settle (lent nodes.new labels.new edges.new incumbent.new) result.stuck result.refusal ≡ settled_by (instance_of sheet.now) view.limit (lent nodes.old labels.old edges.old incumbent.old) step }
+    record: &[u8],
+) -> Result<usize, Refusal>
+    requires room { 5 ≤ length record.now }
+    requires good { Good run.now.sheet.bytes.now run.now.limit (lent nodes.old labels.old edges.old incumbent.old) }
+    ensures { settle (lent nodes.new labels.new edges.new incumbent.new) (stuck_in result) (refused_in result) ≡ settled_by (instance_of run.now.sheet.bytes.now) run.now.limit (lent nodes.old labels.old edges.old incumbent.old) record.now }
 {
-    if step.kind == 5 {
-        return round_record(
-            sheet, view, starts, tables, lowers, nodes, edges, incumbent, step,
-        );
+    let Some(step) = Record::of(record) else {
+        return Err(Refusal::NoSuchRecord);
+    };
+    match step.kind {
+        Kind::Rounding => round_record(run, nodes, edges, incumbent, step),
+        Kind::Message(way) => {
+            message(run, nodes, labels, edges, way, step)?;
+            Ok(0)
+        }
     }
-    if step.kind == 0 {
-        return refused(NO_SUCH_RECORD);
-    }
-    if 5 < step.kind {
-        return refused(NO_SUCH_RECORD);
-    }
-    refused(message(
-        sheet, view, starts, tables, holders, nodes, labels, edges, step,
-    ))
 }
