@@ -5,6 +5,3 @@ use Rattle.messages.proofs.rounding.add_cells.Given as goal
 
 abbrev pub invariant-loop-i : goal.invariant-loop-i
 invariant-loop-i l = (l.i ≤ length l.row) × (l.keys ≡ added l.initial.keys (take l.i l.row))
-
-abbrev pub decreases-loop-i : goal.decreases-loop-i
-decreases-loop-i l = length l.row - l.i
