@@ -16,9 +16,9 @@ use Rattle.rules.specs.Costs.{Buffers, none_kept, prices, position, chosen, chos
 use Rattle.rules.specs.Rounding.{free, adopt}
 use Rattle.rules.specs.Calls.{is_matching, incumbent_ok}
 use Rattle.rules.proofs.Calls.{is_matching_lem}
-use Rattle.messages.specs.Seen.{starts_of, tables_of}
 use Rattle.messages.specs.Incumbent.{replaces, adopted_of}
-use Rattle.messages.proofs.SheetLaws.{start_is, table_is}
+use Rattle.instance.specs.declared.sheet.Sheet.{Sheet}
+use Rattle.instance.proofs.Sheets as sheet
 use Rattle.messages.proofs.UnusedLaws.{unused, free_is, untaken_none, untaken_more}
 
 -- ---- bytes that mean none
@@ -35,18 +35,22 @@ none_some (k ∷ x) d = refl
 
 -- ---- places and cells as the code finds them
 
-module _ (s : List ℕ) (r : refusal_of s ≡ 0) {starts : List ℕ} (b : starts ≡ starts_of s) (x : List ℕ) {u : ℕ} (h : u < (instance_of s).node_count) where
-  pub place_is : get_or starts u 0 + get_or x u 0 ≡ chosen (instance_of s) x u
-  unfolding chosen
-  place_is = ap (λ (z : ℕ). z + get_or x u 0) (start_is s b r h)
+module _ (q : Sheet) (x : List ℕ) where
+  abbrev I : Instance
+  I = instance_of q.bytes.now
 
-  pub place_in : get_or x u 0 < (instance_of s).degree u → get_or starts u 0 + get_or x u 0 < node_cells (instance_of s)
-  place_in g = omega (arith, start_is s b r h, row_inside (instance_of s) h)
+  module _ {u : ℕ} (h : u < q.nodes) where
+    pub place_is : get_or q.starts u 0 + get_or x u 0 ≡ chosen I x u
+    unfolding chosen
+    place_is = ap (λ (z : ℕ). z + get_or x u 0) (sheet.start_is q h)
 
-pub cell_is : (s : List ℕ) (r : refusal_of s ≡ 0) {tables : List ℕ} → tables ≡ tables_of s → (x : List ℕ) {e : ℕ} → e < (instance_of s).edge_count → {a c d : ℕ}
-    → a ≡ (instance_of s).low e → c ≡ (instance_of s).high e → d ≡ (instance_of s).degree c → get_or tables e 0 + (d * get_or x a 0 + get_or x c 0) ≡ chosen_cell (instance_of s) x e
-unfolding chosen_cell cell
-cell_is s r b x h p q z = rw (z, p, q, table_is s b r h)
+    pub place_in : get_or x u 0 < I.degree u → get_or q.starts u 0 + get_or x u 0 < q.positions
+    place_in g = omega (arith, sheet.start_is q h, sheet.row_here q h)
+
+  pub cell_is : {e : ℕ} → e < q.edges → {a c d : ℕ} → a ≡ I.low e → c ≡ I.high e → d ≡ I.degree c
+      → get_or q.tables e 0 + (d * get_or x a 0 + get_or x c 0) ≡ chosen_cell I x e
+  unfolding chosen_cell cell
+  cell_is h p r z = rw (z, p, r, sheet.table_is q h)
 
 -- ---- a position for each node, whose label is 255 or no lower node's
 

@@ -18,10 +18,9 @@ use Rattle.instance.proofs.LaidOut.{row_inside, label_small}
 use Rattle.rules.specs.Costs.{Costs, Buffers, costs_of, position, chosen}
 use Rattle.rules.specs.Rounding.{best_from, best, free, key, choice, round_below, round}
 use Rattle.rules.proofs.Loops.{round_next, round_stops, round_stuck}
-use Rattle.messages.specs.declared.view.View.{View}
-use Rattle.messages.specs.Seen.{Viewed}
 use Rattle.messages.specs.Rounded.{costs_by, rounded_by, keys_at, or_none, chosen_from, Placed}
-use Rattle.messages.proofs.SheetLaws.{proper, nodes_few_lem}
+use Rattle.instance.specs.declared.sheet.Sheet.{Sheet}
+use Rattle.instance.proofs.Sheets as sheet
 use Rattle.messages.proofs.ChoiceLaws.{best_inside}
 use Rattle.messages.proofs.UnusedLaws.{Agree, unused, unused_agree, free_is, untaken_none, untaken_more}
 use Rattle.index.proofs.Lists.{select_ext}
@@ -109,7 +108,10 @@ round_start s n nodes edges = record {
   labels = untaken_none (instance_of s) (replicate 64 0);
 }
 
-module _ {s : List ℕ} {v : View} (w : Viewed s v) (nodes edges : List ℤ) where
+module _ (q : Sheet) (nodes edges : List ℤ) where
+  abbrev s : List ℕ
+  s = q.bytes.now
+
   abbrev I : Instance
   I = instance_of s
 
@@ -117,27 +119,27 @@ module _ {s : List ℕ} {v : View} (w : Viewed s v) (nodes edges : List ℤ) whe
   c = costs_by nodes edges
 
   good : Proper I
-  good = proper s w.readable
+  good = sheet.proper q
 
-  module _ {x : List ℕ} {untaken : List Bool} {u : ℕ} (t : RoundTurn s v.nodes nodes edges x untaken u) where
-    pub round_done : v.nodes ≤ u → Some x ≡ rounded_by (round I c)
+  module _ {x : List ℕ} {untaken : List Bool} {u : ℕ} (t : RoundTurn s q.nodes nodes edges x untaken u) where
+    pub round_done : q.nodes ≤ u → Some x ≡ rounded_by (round I c)
     unfolding rounded_by
     round_done h =
-        let e : u ≡ I.node_count = omega (arith, t.within, w.nodes) in
+        let e : u ≡ I.node_count = omega (arith, t.within, sheet.nodes_is q) in
         let a = length-tabulate 64 (λ k. get_or (take u x) k 0) in
         let p : x ≡ tabulate 64 (λ k. get_or (take u x) k 0) =
         ext_get_or 0 x (tabulate 64 (λ k. get_or (take u x) k 0)) (omega (arith, t.size))
         (λ k l. sym (get_d_tabulate 64 (λ k. get_or (take u x) k 0) k 0 (omega (arith, t.size))
-        ∙ by-test (ltb k u) (λ q. get_or-take u x k 0 (ltb-true k u q))
-        (λ q. let m : u ≤ k = ltb-false k u q in get_or-eq_default (take u x) 0 (omega (arith, length-take u x)) ∙ sym (t.rest k m)))) in
+        ∙ by-test (ltb k u) (λ p. get_or-take u x k 0 (ltb-true k u p))
+        (λ p. let m : u ≤ k = ltb-false k u p in get_or-eq_default (take u x) 0 (omega (arith, length-take u x)) ∙ sym (t.rest k m)))) in
         ap Some p ∙ ap rounded_by (sym t.done ∙ ap (round_below I c) e)
 
-    module _ (inside : u < v.nodes) where
+    module _ (inside : u < q.nodes) where
       node : u < I.node_count
-      node = omega (arith, w.nodes)
+      node = omega (arith, sheet.nodes_is q)
 
       node_few : u < 64
-      node_few = omega (arith, nodes_few_lem w)
+      node_few = omega (arith, sheet.nodes_few q)
 
       agree : Agree (take u x) x u
       agree w h = get_or-take u x w 0 h
@@ -182,7 +184,7 @@ module _ {s : List ℕ} {v : View} (w : Viewed s v) (nodes edges : List ℤ) whe
         unfolding chosen
         chosen_now = ap (λ (z : ℕ). I.label (first I u + z)) (sym placed_now)
 
-        pub round_turn : {l : ℕ} {once : Bool} → l ≡ I.label (first I u + k) → once ≡ exclusive l → RoundTurn s v.nodes nodes edges (set x u k) (set untaken l (not once)) (u + 1)
+        pub round_turn : {l : ℕ} {once : Bool} → l ≡ I.label (first I u + k) → once ≡ exclusive l → RoundTurn s q.nodes nodes edges (set x u k) (set untaken l (not once)) (u + 1)
         round_turn {l} el eo = record {
           within = omega arith;
           size = length-set x u k ∙ t.size;

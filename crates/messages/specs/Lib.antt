@@ -1,15 +1,14 @@
 -- What the contracts of the code that moves costs cite besides the rules.
 pub mod Lent
-pub mod Seen
 pub mod Bounds
 pub mod LabelMessage
 pub mod Incumbent
 pub mod Clash
 pub mod EdgeMessage
-pub mod Step
 pub mod Rounded
 pub mod RoundRecord
 pub mod Answers
 pub mod EdgeRecord
 pub mod Records
+pub mod Step
 pub mod Turn

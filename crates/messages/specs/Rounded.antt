@@ -7,9 +7,7 @@ use Rattle.instance.specs.Instance.{Instance, table}
 use Rattle.instance.specs.Sheet.{instance_of}
 use Rattle.rules.specs.Costs.{Costs, position}
 use Rattle.rules.specs.Rounding.{best, key}
-use Rattle.messages.specs.declared.view.View.{View}
 use Rattle.messages.specs.Lent.{NodeFits, EdgeFits}
-use Rattle.messages.specs.Seen.{Seen}
 use Rattle.index.specs.Index.{Indexed}
 
 -- the costs of lent node and edge buffers
@@ -67,9 +65,7 @@ Placed s x u = (w : ℕ) → w < u → slice_index x w < (instance_of s).degree 
 abbrev pub Lowers : List ℕ → List ℕ → Type 0
 Lowers s lowers = Indexed (instance_of s).high (instance_of s).edge_count lowers
 
--- what a rounding is told of the sheet, and lent costs that fit
-pub record RoundAsked (s : List ℕ) (v : View) (starts tables lowers : List ℕ) (nodes edges : List ℤ) : Type 0 where
-  pub seen : Seen s v starts tables
-  pub indexed : Lowers s lowers
+-- lent costs that fit
+pub record RoundAsked (s : List ℕ) (nodes edges : List ℤ) : Type 0 where
   pub node_costs : NodeFits s nodes
   pub edge_costs : EdgeFits s edges

@@ -3,7 +3,7 @@ ghost use Rattle.std.specs.Prelude.{◌≡◌, ◌+◌, ◌*◌, ◌≤◌, leng
 ghost use Rattle.integers.specs.Places.{tabulate};
 ghost use Rattle.instance.specs.Bytes.{price_at};
 
-use crate::view::price_at;
+use instance::price;
 
 // The prices from `at` on, one for each cost.
 pub(crate) fn fill_prices(sheet: &[u8], at: usize, costs: &mut [i64])
@@ -11,6 +11,6 @@ pub(crate) fn fill_prices(sheet: &[u8], at: usize, costs: &mut [i64])
     ensures { costs.new ≡ tabulate (length costs.old) (λ i. price_at sheet.now (at + 4 * i)) }
 {
     for (i, cost) in costs.iter_mut().enumerate() {
-        *cost = price_at(sheet, at + 4 * i);
+        *cost = price(sheet, at + 4 * i);
     }
 }

@@ -13,7 +13,7 @@ ghost use Rattle.messages.specs.LabelMessage.{label_moved, label_move, node_amou
 
 use crate::records::Record;
 use crate::rows::{amount_of, in_range, minus, plus, share_of, smaller};
-use crate::run::Run;
+use crate::running::Run;
 use instance::{Refusal, Sheet};
 
 // Moves `p` from the node cost to the label cost at the place `i`, where both stay within the limit.

@@ -8,7 +8,6 @@ mod edge_message;
 mod edge_record;
 mod filling;
 mod incumbent;
-mod indexes;
 mod label_message;
 mod lent;
 mod list;
@@ -18,9 +17,9 @@ mod reporting;
 mod round_record;
 mod rounding;
 mod rows;
+mod running;
 mod turn;
 mod usable;
-mod view;
 
 pub use answers::{Answer, Report};
 pub use list::run;

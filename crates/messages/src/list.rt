@@ -10,7 +10,7 @@ ghost use Rattle.messages.specs.Answers.{ran_as};
 
 use crate::answers::Answer;
 use crate::lent::check_lent;
-use crate::run::{COST_LIMIT, Run};
+use crate::running::{COST_LIMIT, Run};
 use crate::turn::one_record;
 use instance::{Refusal, Sheet};
 

@@ -11,7 +11,7 @@ ghost use Rattle.messages.specs.Records.{kind_as, head_of, label_taken, edge_tak
 
 use crate::edge_record::move_edge;
 use crate::label_message::{given, shift_label};
-use crate::run::Run;
+use crate::running::Run;
 use instance::{Refusal, Sheet, exclusive};
 
 // A message: between a node and an edge, or a node and a label.

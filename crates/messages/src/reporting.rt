@@ -9,7 +9,7 @@ use crate::bound::lower_bound;
 use crate::incumbent::{none_kept, price};
 use crate::lent::check_lent;
 use crate::rows::minus;
-use crate::run::COST_LIMIT;
+use crate::running::COST_LIMIT;
 use instance::{Refusal, Sheet};
 
 // A bound beside the cost of what is kept: no bound may exceed it.

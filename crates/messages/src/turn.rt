@@ -8,7 +8,7 @@ ghost use Rattle.instance.specs.Refusal.{refused_in};
 
 use crate::records::{Kind, Record, Way, edge_record, label_record};
 use crate::round_record::round_record;
-use crate::run::Run;
+use crate::running::Run;
 use instance::Refusal;
 
 // A record of kinds 1 to 4; it leaves the incumbent, whatever it is, alone.

@@ -9,8 +9,8 @@ use Rattle.messages.specs.Lent.{lent}
 use Rattle.messages.specs.Seen.{Seen}
 use Rattle.rules.proofs.Opening.{lengths_by, lengths_are}
 use Rattle.messages.proofs.LentLaws.{unrefused, laid, seen_of, lent_unread, lent_unfit, lent_far, lent_unmatched, lent_good, range_by}
-use Rattle.messages.proofs.lent.lent_refusal.Goals as goal
-use Rattle.messages.proofs.lent.lent_refusal.Goals.{Else-layout-ne-NONE, Start, Then-costs_ok, Then-lengths_agree}
+use Rattle.messages.proofs.lent.check_lent.Goals as goal
+use Rattle.messages.proofs.lent.check_lent.Goals.{Else-layout-ne-NONE, Start, Then-costs_ok, Then-lengths_agree}
 
 module _ (q : Start) where
   abbrev sheet : List ℕ

@@ -10,6 +10,7 @@ use instance::Sheet;
 // No cost passes this, up or down.
 pub(crate) const COST_LIMIT: u64 = 0x100_0000_0000;
 
+#[derive(Drop)]
 pub(crate) struct Run<'a> {
     pub sheet: Sheet<'a>,
     pub limit: u64,

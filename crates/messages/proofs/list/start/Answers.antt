@@ -10,8 +10,8 @@ use Rattle.messages.specs.Seen.{Seen}
 use Rattle.messages.specs.Turn.{Good}
 use Rattle.messages.proofs.LentLaws.{LentWell, lent_well, laid, seen_of}
 use Rattle.messages.proofs.TurnLaws.{good_of}
-use Rattle.messages.proofs.list.run_good.Goals as goal
-use Rattle.messages.proofs.list.run_good.Goals.{After-view_of-view, Start}
+use Rattle.messages.proofs.list.start.Goals as goal
+use Rattle.messages.proofs.list.start.Goals.{After-view_of-view, Start}
 
 module _ (q : Start) where
   abbrev sheet : List ℕ
