@@ -1,9 +1,8 @@
 -- Where a label meets an unusable cell among the labels of a node, which rise, and what a mask of them says.
 -- Assumes nothing.
-use Rattle.std.proofs.Common.{◌≡◌, ℕ, ◌+◌, ◌%◌, ◌^◌, ◌<◌, ◌≤◌, true, false, not, eqb, ltb, Option, None, Some, MatchOption, List, length, get_or, sym, ap, ◌∙◌, arith, rules, ltb-false, ltb-true, ne_eqb, eqb-true}
+use Rattle.std.proofs.Common.{◌≡◌, ℕ, ◌+◌, ◌%◌, ◌^◌, ◌<◌, ◌≤◌, true, false, not, eqb, ltb, None, Some, List, length, get_or, sym, ap, ◌∙◌, arith, rules, ltb-false, ltb-true, ne_eqb, eqb-true}
 use borrow.Author.Tests.{eqb-false}
 use lib.Bits.{bit_and, bit_or}
-use Rattle.std.specs.List.{AllWithin, HoldsAt}
 use Rattle.integers.specs.Words.{bit}
 use Rattle.integers.proofs.Places.{by-test, and_both, left_true, right_true}
 use Rattle.integers.proofs.Counting.{climbs}

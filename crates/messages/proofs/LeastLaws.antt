@@ -1,6 +1,6 @@
 -- The least of a row as four running minima side by side find it.
 -- Assumes nothing.
-use Rattle.std.proofs.Common.{◌≡◌, ℕ, zero, suc, ◌+◌, ◌<◌, ◌≤◌, List, [], ◌∷◌, length, get_or, drop, ℤ, pos, sym, refl, ap, ◌∙◌, ap₂, not-suc-le-zero, arith, get_or-drop}
+use Rattle.std.proofs.Common.{◌≡◌, ℕ, zero, suc, ◌<◌, List, [], ◌∷◌, length, get_or, drop, ℤ, pos, sym, refl, ap, ◌∙◌, ap₂, not-suc-le-zero, arith, get_or-drop}
 use Rattle.integers.specs.Least.{min_ℤ, least_from, least_of, without}
 use Rattle.integers.proofs.Order.{le_refl, min_eq_left, min_comm}
 use Rattle.integers.proofs.Least.{min_left_comm, least_step, least_min}

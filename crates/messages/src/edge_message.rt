@@ -271,6 +271,7 @@ pub(crate) fn move_cells(
     requires within_2 { Within (2 ^ 41) amounts.now }
     ensures { cells.new ≡ moved_cells by_row width amounts.now cells.old }
 {
+    // Kept: a row by its place, since a proof knows nothing of what is written through `chunks_exact_mut`.
     for k in 0..height {
         let a = k * width;
         let b = a + width;

@@ -10,6 +10,7 @@ ghost use Rattle.integers.specs.Checks.{within};
 ghost use Rattle.rules.specs.Calls.{cost_limit};
 
 // A sum that fits.
+// Kept, with the difference: as a call it asks for its range once; written out, each reading of it would ask again.
 pub(crate) fn plus(a: i64, b: i64) -> i64
     requires { FitsSigned w64 (a +ℤ b) }
     ensures { result ≡ a +ℤ b }

@@ -1,5 +1,5 @@
 -- `place_of` meets its contract: the cells before this place are usable.
-use Rattle.std.proofs.Common.{◌≡◌, ℕ, true, get_or, sym, ◌∙◌, ap₂, arith, below_more}
+use Rattle.std.proofs.Common.{◌≡◌, true, get_or, sym, ◌∙◌, ap₂, arith, below_more}
 use Rattle.instance.specs.Instance.{usable}
 use Rattle.messages.proofs.ClashLaws.{skips_none, skips_here}
 use Rattle.messages.proofs.clash.place_of.Goals as goal

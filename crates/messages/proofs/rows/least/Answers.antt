@@ -1,10 +1,10 @@
 -- `least` meets its contract. The loop's invariant: the least of the four and of what is left is the least of all.
-use Rattle.std.proofs.Common.{◌≡◌, ℕ, ◌<◌, List, length, get_or, take, drop, ℤ, pos, ap, ◌∙◌, ap₂, arith, get_or-take, to_z-of_z, w64, to_z, of_z, rules, SFits}
+use Rattle.std.proofs.Common.{◌≡◌, ℕ, ◌<◌, List, length, get_or, take, ℤ, pos, ap, ◌∙◌, ap₂, arith, get_or-take, to_z-of_z, w64, to_z, of_z, rules, SFits}
 use Rattle.std.specs.Int.{int_min}
 use Rattle.integers.specs.Least.{min_ℤ, least_from}
 use Rattle.integers.proofs.Bits.{answer}
 use Rattle.messages.proofs.RowLaws.{less, less_back}
-use Rattle.messages.proofs.LeastLaws.{lesser, lesser_self, abreast}
+use Rattle.messages.proofs.LeastLaws.{lesser_self, abreast}
 use Rattle.messages.proofs.rows.least.Goals as goal
 
 -- the less of one of four elements and a minimum, as the code reads both
