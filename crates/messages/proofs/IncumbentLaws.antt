@@ -1,7 +1,6 @@
 -- The incumbent's laws over plain values: bytes that mean none, labels that are taken, sums of prices, and what replaces what.
 -- Assumes nothing.
-use Rattle.std.proofs.Common.{◌≡◌, ℕ, suc, ◌+◌, ◌*◌, ◌<◌, ◌≤◌, Bool, true, false, cond, not, ◌&&◌, ◌||◌, eqb, ltb, List, [], ◌∷◌, ◌++◌, length, get_or, take, drop, set, replicate, ℤ, pos, ◌+ℤ◌, sym, refl, ap, ◌∙◌, ap₂, add-one, arith, length-take-le, take_all, drop-cons, take-suc, le-ltb, lt-ltb}
-use lib.Seq.{append_snoc, set_at, drop-length}
+use Rattle.std.proofs.Common.{◌≡◌, ℕ, ◌+◌, ◌*◌, ◌<◌, ◌≤◌, Bool, true, false, cond, not, ◌&&◌, ◌||◌, eqb, ltb, List, [], ◌∷◌, length, get_or, set, replicate, ℤ, pos, ◌+ℤ◌, sym, refl, ap, ◌∙◌, ap₂, arith, le-ltb, lt-ltb}
 use lib.Signed.{lt_z}
 use Rattle.integers.specs.Places.{every, tabulate, total}
 use Rattle.integers.specs.Checks.{below}

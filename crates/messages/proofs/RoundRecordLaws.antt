@@ -2,7 +2,6 @@
 -- Assumes nothing.
 use Rattle.std.proofs.Common.{◌≡◌, ℕ, ◌≤◌, Bool, true, false, cond, ◌&&◌, eqb, None, Some, List, length, get_or, take, ℤ, sym, refl, ap, ◌∙◌, arith, length-take-le, get_or-take, ext_get_or}
 use mathlib.Core.Option.{Option, none, some}
-use lib.ListN.{length-replicate}
 use Rattle.integers.specs.Places.{tabulate}
 use Rattle.integers.proofs.Places.{if-true, if-false, length-tabulate, get_d_tabulate}
 use Rattle.instance.specs.Instance.{Instance}

@@ -1,7 +1,6 @@
 -- Rows of costs as the code goes through them: the least over two parts, a test of each cost, and the range of a cost.
 -- Assumes nothing.
-use Rattle.std.proofs.Common.{◌≡◌, ℕ, zero, suc, ◌^◌, ◌<◌, ◌≤◌, Bool, true, false, T, List, [], ◌∷◌, length, get_or, ℤ, pos, negsuc, ◌+ℤ◌, ◌-ℤ◌, neg_ℤ, nat_abs, ◌≤ℤ◌, ◌<ℤ◌, sym, refl, ap, ◌∙◌, ap₂, not-suc-le-zero, arith, to_z-of_z, w64, Fits, SFits, to_z, of_z}
-use lib.Signed.{non_neg}
+use Rattle.std.proofs.Common.{◌≡◌, ℕ, zero, suc, ◌^◌, ◌<◌, ◌≤◌, Bool, true, false, List, [], ◌∷◌, length, get_or, ℤ, pos, negsuc, ◌+ℤ◌, ◌-ℤ◌, neg_ℤ, nat_abs, ◌<ℤ◌, sym, refl, ap, ◌∙◌, ap₂, not-suc-le-zero, arith, to_z-of_z, w64, SFits, to_z, of_z}
 use Rattle.std.specs.Int.{int_min}
 use Rattle.std.proofs.Common.{int_lt}
 use Rattle.integers.proofs.Order.{min_comm, min_eq_left, min_eq_right}
@@ -13,8 +12,6 @@ use Rattle.integers.specs.Sum.{Within}
 use Rattle.integers.specs.Places.{every}
 use Rattle.integers.specs.Checks.{below, within}
 use Rattle.integers.proofs.Parts.{linear, abs, add, sub, neg}
-use Rattle.integers.proofs.Bits.{low}
-use Rattle.integers.proofs.Share.{nearest_le, share-pos}
 use Rattle.integers.proofs.Places.{by-test, both_ways, if-true, if-false, and_true}
 use Rattle.integers.proofs.Checks.{below_at, below_all, below_fails, within_le}
 use Rattle.integers.proofs.Least.{least_min, least_within}

@@ -12,7 +12,7 @@ ghost use Rattle.instance.specs.Described.{labels_of};
 ghost use Rattle.messages.specs.EdgeMessage.{usable_cells};
 ghost use Rattle.messages.specs.Bounds.{row_least, table_least, least_labels};
 
-use crate::rows::{least_of, plus, smaller};
+use crate::rows::{least_of, plus};
 use crate::usable::usable_least;
 use instance::Sheet;
 
@@ -65,7 +65,7 @@ fn label_leasts(sheet: &Sheet, labels: &[i64]) -> [i64; 256]
     let mut least = [0i64; 256];
     for (i, cost) in labels.iter().enumerate() {
         let l = sheet.label(i);
-        least[l] = smaller(*cost, least[l]);
+        least[l] = least[l].min(*cost);
     }
     least
 }

@@ -1,7 +1,6 @@
 // Opening: the four lent buffers filled from the sheet.
-ghost use Rattle.std.specs.Prelude.{◌≡◌, ◌+◌, ◌*◌, ◌≤◌, ◌&&◌, length, replicate, pos, ◌==◌};
-ghost use Rattle.integers.specs.Places.{tabulate};
-ghost use Rattle.instance.specs.Bytes.{price_at};
+ghost use Rattle.std.specs.Prelude.{◌≡◌, ◌&&◌, ◌==◌};
+ghost use Rattle.instance.specs.Refusal.{refused_in};
 ghost use Rattle.rules.specs.Calls.{open_of};
 ghost use Rattle.messages.specs.Lent.{lent, opens};
 

@@ -24,7 +24,7 @@ pub(crate) struct Run<'a> {
 impl<'a> Run<'a> {
     pub(crate) fn new(sheet: Sheet<'a>, limit: u64) -> Run<'a>
         requires { limit ≤ cost_limit }
-        ensures { (result.sheet.bytes ≡ sheet.bytes) × (result.limit ≡ limit) }
+        ensures { (result.sheet.bytes ≡ sheet.entry.bytes) × (result.limit ≡ limit) }
     {
         let holders = Index::of(&sheet.bytes[sheet.nodes..sheet.prices], 1);
         // the higher ends are every second byte behind the first lower end

@@ -1,5 +1,5 @@
 -- `round_and_adopt` meets its contract: what the rounding's answer says, and what is adopted, by the laws of the record.
-use Rattle.std.proofs.Common.{◌≡◌, ◌≤◌, Some, length, sym, ◌∙◌, arith, length-take-le}
+use Rattle.std.proofs.Common.{◌≡◌, ◌≤◌, Some, length, sym, arith, length-take-le}
 use Rattle.instance.specs.Instance.{Instance}
 use Rattle.instance.specs.Sheet.{instance_of}
 use Rattle.rules.specs.Costs.{Costs}

@@ -1,5 +1,5 @@
 -- `add_cells` meets its contract: after i places the row's first i are added.
-use Rattle.std.proofs.Common.{◌≡◌, ◌-◌, ◌≤◌, length, take}
+use Rattle.std.proofs.Common.{◌≡◌, ◌≤◌, length, take}
 use Rattle.messages.specs.Rounded.{added}
 use Rattle.messages.proofs.rounding.add_cells.Given as goal
 

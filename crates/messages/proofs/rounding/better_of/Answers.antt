@@ -1,5 +1,5 @@
 -- `better_of` meets its contract, case by case.
-use Rattle.std.proofs.Common.{◌≡◌, ℕ, Bool, Option, Some, get_or, ℤ, pos, sym, ap, ◌∙◌, ap₂, to_z-of_z, w64, SFits, to_z, of_z, rules}
+use Rattle.std.proofs.Common.{◌≡◌, ℕ, Bool, Option, get_or, ℤ, pos, sym, ap, ◌∙◌, ap₂, to_z-of_z, w64, SFits, to_z, of_z, rules}
 use lib.Signed.{le_z}
 use Rattle.messages.specs.Rounded.{better}
 use Rattle.messages.proofs.ChoiceLaws.{better_first, better_less, better_stays, better_taken}

@@ -1,5 +1,5 @@
 -- `choose` meets its contract: after k positions the best is that of the first k.
-use Rattle.std.proofs.Common.{◌≡◌, ◌-◌, ◌≤◌}
+use Rattle.std.proofs.Common.{◌≡◌}
 use Rattle.instance.specs.Sheet.{instance_of}
 use Rattle.messages.specs.Rounded.{chosen_from}
 use Rattle.messages.proofs.rounding.choose.Given as goal
