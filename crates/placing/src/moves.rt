@@ -3,7 +3,7 @@ ghost use Rattle.std.specs.Prelude.{◌≡◌, ℕ, IfOk, IfErr};
 ghost use Rattle.integers.specs.Words.{bit};
 ghost use Rattle.placing.specs.Words.{entry, Asked, Met, Rooted, Ended};
 
-use crate::search::{Meeting, Steps, search};
+use crate::search::{Meeting, Steps};
 use crate::seats::Seats;
 use crate::words::{bit_of, has, lowest};
 
@@ -44,7 +44,7 @@ impl<'a> Seats<'a> {
             by: [0; 64],
             words: [0; 64],
         };
-        let met = search(&self.reach, self.free, start, before, &mut steps)?;
+        let met = self.search(start, before, &mut steps)?;
         self.shift(&steps, met, root);
         Ok(())
     }
