@@ -1,9 +1,8 @@
 -- Where a label meets an unusable cell among the labels of a node, which rise, and what a mask of them says.
 -- Assumes nothing.
-use Rattle.std.proofs.Common.{◌≡◌, ℕ, ◌+◌, ◌%◌, ◌^◌, ◌<◌, ◌≤◌, true, false, not, eqb, ltb, Option, None, Some, MatchOption, List, length, get_or, sym, ap, ◌∙◌, arith, rules, ltb-false, ltb-true, ne_eqb, eqb-true}
+use Rattle.std.proofs.Common.{◌≡◌, ℕ, ◌+◌, ◌%◌, ◌^◌, ◌<◌, ◌≤◌, true, false, not, eqb, ltb, None, Some, List, length, get_or, sym, ap, ◌∙◌, arith, rules, ltb-false, ltb-true, ne_eqb, eqb-true}
 use borrow.Author.Tests.{eqb-false}
 use lib.Bits.{bit_and, bit_or}
-use Rattle.std.specs.List.{AllWithin, HoldsAt}
 use Rattle.integers.specs.Words.{bit}
 use Rattle.integers.proofs.Places.{by-test, and_both, left_true, right_true}
 use Rattle.integers.proofs.Counting.{climbs}
@@ -13,21 +12,6 @@ use Rattle.instance.proofs.UsableCells.{distinct_usable}
 use Rattle.messages.specs.Clash.{Rising, Skips, bit_at, Masks}
 
 -- ---- the cells of a label
-
--- those of the first p are usable
-pub record Usable (labels : List ℕ) (label p : ℕ) : Type 0 where
-  pub inside : p ≤ length labels
-  pub usable : (i : ℕ) → i < p → usable label (get_or labels i 0) ≡ true
-
-pub usable_none : (labels : List ℕ) (label : ℕ) → Usable labels label 0
-usable_none labels label = record { inside = omega arith; usable = λ i h. absurd (omega arith) }
-
-pub usable_more : {labels : List ℕ} {label p : ℕ} → Usable labels label p → p < length labels → usable label (get_or labels p 0) ≡ true → Usable labels label (p + 1)
-usable_more {labels} {label} {p} u h e =
-    record {
-      inside = omega arith;
-      usable = λ i l. by-test (eqb i p) (λ z. ap (λ (j : ℕ). usable label (get_or labels j 0)) (eqb-true i p z) ∙ e) (λ z. let d : i ≡ p → ⊥ = eqb-false i p z in u.usable i (omega arith));
-    }
 
 module _ {labels : List ℕ} {label : ℕ} where
   pub skips_none : ((p : ℕ) → p < length labels → usable label (get_or labels p 0) ≡ true) → Skips labels label None
@@ -52,14 +36,6 @@ module _ {labels : List ℕ} {label : ℕ} where
       apart p k n e =
           by-test (ltb p at) (λ t. let s = climbs (λ i. get_or labels i 0) (length labels) r p at (ltb-true p at t) h in omega arith)
           (λ t. let l : at ≤ p = ltb-false p at t in let s = climbs (λ i. get_or labels i 0) (length labels) r at p (omega arith) k in omega arith)
-
--- by what a search for the first unusable cell finds
-pub skips_found : {labels : List ℕ} {label : ℕ} → Rising labels → (skip : Option ℕ)
-    → MatchOption skip (AllWithin (λ l. usable label l ≡ true) labels 0 (length labels))
-    (λ p. (p < length labels) × HoldsAt (λ l. usable label l ≡ false) labels p × AllWithin (λ l. usable label l ≡ true) labels 0 p)
-    → Skips labels label skip
-skips_found r None h = skips_none (λ p k. h p 0 (omega arith) k)
-skips_found r (Some p) h = skips_here r h.0 (h.1 0)
 
 -- with none it is as if the place past all labels were skipped
 pub skips_past : {labels : List ℕ} {label : ℕ} → Skips labels label None → (p : ℕ) → p < length labels → usable label (get_or labels p 0) ≡ not (eqb p (length labels))

@@ -1,11 +1,11 @@
 -- One test for many costs: each gives a number that reaches the half of the width exactly if the cost passes the limit, and these are joined by their bits.
 -- Assumes nothing.
-use Rattle.std.proofs.Common.{◌≡◌, ℕ, zero, suc, ◌+◌, ◌-◌, ◌*◌, ◌%◌, ◌^◌, ◌<◌, ◌≤◌, Bool, true, ◌&&◌, ltb, List, [], ◌∷◌, length, get_or, ℤ, pos, negsuc, ◌+ℤ◌, ◌-ℤ◌, nat_abs, ◌≤ℤ◌, ◌<ℤ◌, sym, refl, ap, ◌∙◌, ap₂, not-suc-le-zero, add-one, arith, w64, SFits, of_z, below_more, ltb-true, lt-ltb}
+use Rattle.std.proofs.Common.{◌≡◌, ℕ, zero, suc, ◌+◌, ◌-◌, ◌*◌, ◌%◌, ◌^◌, ◌<◌, ◌≤◌, Bool, true, ◌&&◌, ltb, List, [], ◌∷◌, length, get_or, ℤ, pos, negsuc, ◌+ℤ◌, nat_abs, sym, refl, ap, ◌∙◌, ap₂, not-suc-le-zero, add-one, arith, w64, SFits, of_z, below_more, ltb-true, lt-ltb}
 use lib.Bits.{bit_or, or_lt, or_add_and, and_le_l, and_le_r}
 use Rattle.integers.specs.Sum.{Within}
 use Rattle.integers.specs.Places.{every}
 use Rattle.integers.specs.Checks.{below, within}
-use Rattle.integers.proofs.Parts.{linear, sub, abs, apart, range}
+use Rattle.integers.proofs.Parts.{linear}
 use Rattle.integers.proofs.Sum.{abs_add}
 use Rattle.integers.proofs.Places.{both_ways, and_true, and_both, every-tabulate}
 use Rattle.integers.proofs.Ranges.{shifted}

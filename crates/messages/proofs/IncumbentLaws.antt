@@ -1,7 +1,6 @@
--- The incumbent's laws over plain values: bytes that mean none, labels that are taken, sums of prices, what replaces what, and bytes copied in turn.
+-- The incumbent's laws over plain values: bytes that mean none, labels that are taken, sums of prices, and what replaces what.
 -- Assumes nothing.
-use Rattle.std.proofs.Common.{◌≡◌, ℕ, suc, ◌+◌, ◌*◌, ◌<◌, ◌≤◌, Bool, true, false, cond, not, ◌&&◌, ◌||◌, eqb, ltb, List, [], ◌∷◌, ◌++◌, length, get_or, take, drop, set, replicate, ℤ, pos, ◌+ℤ◌, sym, refl, ap, ◌∙◌, ap₂, add-one, arith, length-take-le, take_all, drop-cons, take-suc, le-ltb, lt-ltb}
-use lib.Seq.{append_snoc, set_at, drop-length}
+use Rattle.std.proofs.Common.{◌≡◌, ℕ, ◌+◌, ◌*◌, ◌<◌, ◌≤◌, Bool, true, false, cond, not, ◌&&◌, ◌||◌, eqb, ltb, List, [], ◌∷◌, length, get_or, set, replicate, ℤ, pos, ◌+ℤ◌, sym, refl, ap, ◌∙◌, ap₂, arith, le-ltb, lt-ltb}
 use lib.Signed.{lt_z}
 use Rattle.integers.specs.Places.{every, tabulate, total}
 use Rattle.integers.specs.Checks.{below}
@@ -137,21 +136,3 @@ module _ (J : Instance) where
       let m = total J.node_count (λ u. J.node_price (chosen J x u)) in
       let z : m +ℤ total J.node_count (λ u. paid J (prices J) (chosen J x u)) ≡ m = rw (some_zero J.node_count (λ u. exclusive (J.label (chosen J x u)))) (omega (linear, add m (pos 0))) in
       ap₂ ◌+ℤ◌ (p ∙ sym z) q
-
--- ---- bytes copied in turn
-
-pub copied_none : (from old : List ℕ) → old ≡ take 0 from ++ drop 0 old
-copied_none from old = refl
-
-pub copied_more : (from old : List ℕ) (i : ℕ) → length from ≡ length old → i < length from → set (take i from ++ drop i old) i (get_or from i 0) ≡ take (i + 1) from ++ drop (i + 1) old
-copied_more from old i e h =
-    rw (drop-cons old i 0 (omega arith))
-    (set_at (take i from) (get_or old i 0) (drop (suc i) old) (get_or from i 0) i (length-take-le i from (omega arith))
-    ∙ rw (add-one i, take-suc from i 0 h) (sym (append_snoc (take i from) (get_or from i 0) (drop (suc i) old))))
-
-pub copied_all : (from old : List ℕ) (i : ℕ) → length from ≡ length old → i ≡ length from → take i from ++ drop i old ≡ from
-copied_all from old i e h = rw (take_all i from (omega arith), h, e, drop-length old) (nil_right from)
-  where
-    nil_right : (l : List ℕ) → l ++ [] ≡ l
-    nil_right [] = refl
-    nil_right (a ∷ l) = ap (λ (m : List ℕ). a ∷ m) (nil_right l)

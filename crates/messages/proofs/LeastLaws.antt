@@ -1,6 +1,6 @@
 -- The least of a row as four running minima side by side find it.
 -- Assumes nothing.
-use Rattle.std.proofs.Common.{◌≡◌, ℕ, zero, suc, ◌+◌, ◌<◌, ◌≤◌, List, [], ◌∷◌, length, get_or, drop, ℤ, pos, sym, refl, ap, ◌∙◌, ap₂, not-suc-le-zero, arith, get_or-drop}
+use Rattle.std.proofs.Common.{◌≡◌, ℕ, zero, suc, ◌<◌, List, [], ◌∷◌, length, get_or, drop, ℤ, pos, sym, refl, ap, ◌∙◌, ap₂, not-suc-le-zero, arith, get_or-drop}
 use Rattle.integers.specs.Least.{min_ℤ, least_from, least_of, without}
 use Rattle.integers.proofs.Order.{le_refl, min_eq_left, min_comm}
 use Rattle.integers.proofs.Least.{min_left_comm, least_step, least_min}
@@ -25,38 +25,21 @@ four x a y b z c w d =
     ∙ ap (λ (m : ℤ). min_ℤ w (min_ℤ y m)) (two x (min_ℤ a b) z (min_ℤ c d))
     ∙ ap (min_ℤ w) (min_left_comm y z (min_ℤ x (lesser a b c d)))
 
--- ---- a loop that takes four at a time
+-- all alike
+pub lesser_self : (a : ℤ) → lesser a a a a ≡ a
+lesser_self a = ap₂ min_ℤ (min_self a) (min_self a) ∙ min_self a
 
-pub record Abreast (start : ℤ) (l : List ℤ) (i : ℕ) (a b c d : ℤ) : Type 0 where
-  pub inside : i ≤ length l
-  pub told : least_from (lesser a b c d) (drop i l) ≡ least_from start l
-
-pub abreast_none : (x : ℤ) (l : List ℤ) → Abreast x l 0 x x x x
-abreast_none x l = record { inside = omega arith; told = ap (λ (z : ℤ). least_from z l) (ap₂ min_ℤ (min_self x) (min_self x) ∙ min_self x) }
-
-pub abreast_more : {x : ℤ} {l : List ℤ} {i : ℕ} {a b c d : ℤ} → Abreast x l i a b c d → i + 3 < length l
-    → Abreast x l (i + 4) (min_ℤ (get_or l i (pos 0)) a) (min_ℤ (get_or l (i + 1) (pos 0)) b) (min_ℤ (get_or l (i + 2) (pos 0)) c) (min_ℤ (get_or l (i + 3) (pos 0)) d)
-abreast_more {x} {l} {i} {a} {b} {c} {d} g h =
+-- four elements, one for each
+pub abreast : (l : List ℤ) (a b c d : ℤ) → 3 < length l
+    → least_from (lesser (min_ℤ (get_or l 0 (pos 0)) a) (min_ℤ (get_or l 1 (pos 0)) b) (min_ℤ (get_or l 2 (pos 0)) c) (min_ℤ (get_or l 3 (pos 0)) d)) (drop 4 l) ≡ least_from (lesser a b c d) l
+abreast l a b c d h =
     let at : ℕ → ℤ = (λ k. get_or l k (pos 0)) in
     let m = lesser a b c d in
-    let e : i + 4 ≡ i + 3 + 1 = omega arith in
-    let f : i + 3 ≡ i + 2 + 1 = omega arith in
-    let o : i + 2 ≡ i + 1 + 1 = omega arith in
-    record {
-      inside = omega arith;
-      told = ap₂ (λ (z : ℤ) (k : ℕ). least_from z (drop k l)) (four (at i) a (at (i + 1)) b (at (i + 2)) c (at (i + 3)) d) e
-          ∙ least_step (min_ℤ (at (i + 2)) (min_ℤ (at (i + 1)) (min_ℤ (at i) m))) l (i + 3) (pos 0) (omega arith)
-          ∙ ap (λ (k : ℕ). least_from (min_ℤ (at (i + 2)) (min_ℤ (at (i + 1)) (min_ℤ (at i) m))) (drop k l)) f
-          ∙ least_step (min_ℤ (at (i + 1)) (min_ℤ (at i) m)) l (i + 2) (pos 0) (omega arith)
-          ∙ ap (λ (k : ℕ). least_from (min_ℤ (at (i + 1)) (min_ℤ (at i) m)) (drop k l)) o
-          ∙ least_step (min_ℤ (at i) m) l (i + 1) (pos 0) (omega arith)
-          ∙ least_step m l i (pos 0) (omega arith)
-          ∙ g.told;
-    }
-
--- the four as they are read back
-pub abreast_is : {x : ℤ} {l : List ℤ} {i : ℕ} {a b c d a' b' c' d' : ℤ} → a' ≡ a → b' ≡ b → c' ≡ c → d' ≡ d → Abreast x l i a b c d → Abreast x l i a' b' c' d'
-abreast_is {x} {l} {i} e f g h r = record { inside = r.inside; told = ap (λ (z : ℤ). least_from z (drop i l)) (ap₂ min_ℤ (ap₂ min_ℤ e f) (ap₂ min_ℤ g h)) ∙ r.told }
+    ap (λ (z : ℤ). least_from z (drop 4 l)) (four (at 0) a (at 1) b (at 2) c (at 3) d)
+    ∙ least_step (min_ℤ (at 2) (min_ℤ (at 1) (min_ℤ (at 0) m))) l 3 (pos 0) (omega arith)
+    ∙ least_step (min_ℤ (at 1) (min_ℤ (at 0) m)) l 2 (pos 0) (omega arith)
+    ∙ least_step (min_ℤ (at 0) m) l 1 (pos 0) (omega arith)
+    ∙ least_step m l 0 (pos 0) (omega arith)
 
 -- the first of a list as the start value, and as an element besides
 pub least_whole : (l : List ℤ) (d : ℤ) → 0 < length l → least_from (get_or l 0 d) l ≡ least_of l

@@ -1,19 +1,16 @@
 -- A list whose first n elements are f of their places, and the others as they were, as a loop writes it: a store more, a part more, all of them; and a test row by row.
 -- Assumes nothing.
-use Rattle.std.proofs.Common.{◌≡◌, ℕ, zero, suc, ◌+◌, ◌-◌, ◌*◌, ◌^◌, ◌<◌, ◌≤◌, Bool, ◌&&◌, ltb, List, [], ◌∷◌, ◌++◌, map, length, get_or, take, drop, set, replicate, ℤ, pos, ◌+ℤ◌, nat_abs, sym, refl, ap, ◌∙◌, ap₂, append_assoc, append-nil, add-one, arith, length-append, length-drop, get_or-drop, drop-cons, drop-drop, take_at, get_or-append-add, ext_get_or, drop_at, w64, SFits, ltb-false, ltb-true}
+use Rattle.std.proofs.Common.{◌≡◌, ℕ, zero, suc, ◌+◌, ◌-◌, ◌*◌, ◌<◌, ◌≤◌, Bool, ◌&&◌, ltb, List, [], ◌∷◌, ◌++◌, map, length, get_or, take, drop, set, replicate, ℤ, pos, ◌+ℤ◌, sym, refl, ap, ◌∙◌, ap₂, append_assoc, append-nil, add-one, arith, length-append, length-drop, get_or-drop, drop-cons, drop-drop, take_at, get_or-append-add, ext_get_or, drop_at, ltb-false, ltb-true}
 use mathlib.Core.List.{map-append}
 use borrow.Rule.Slice.PartMut.{put_mid}
 use lib.ListN.{length-map, length-replicate, get_or-replicate, get_or-append}
 use lib.Seq.{set_at, drop-length}
-use Rattle.integers.specs.Sum.{Within}
 use Rattle.integers.specs.Places.{range, tabulate, every}
 use Rattle.integers.specs.Checks.{below}
-use Rattle.integers.proofs.Parts.{linear, add, abs}
 use Rattle.integers.proofs.Places.{by-test, map-ext, range_mem, length-range, get_or-range, length-tabulate, get_d_tabulate}
 use Rattle.integers.proofs.Ranges.{range_add, tabulate-more, shifted}
 use Rattle.integers.proofs.Checks.{below_ext}
 use Rattle.integers.proofs.Marks.{below_append}
-use Rattle.rules.specs.Calls.{cost_limit}
 use Rattle.messages.specs.EdgeMessage.{over}
 use Rattle.messages.proofs.RowLaws.{every_is}
 

@@ -1,8 +1,7 @@
 -- The laws of a record of kind 5: what a rounding's answer says, what is found is a labelling, and the record's outcome by the rules.
 -- Assumes nothing.
-use Rattle.std.proofs.Common.{◌≡◌, ℕ, ◌≤◌, Bool, true, false, cond, ◌&&◌, eqb, List, length, get_or, take, ℤ, sym, refl, ap, ◌∙◌, arith, length-take-le, get_or-take, ext_get_or}
+use Rattle.std.proofs.Common.{◌≡◌, ℕ, ◌≤◌, Bool, true, false, cond, ◌&&◌, eqb, None, Some, List, length, get_or, take, ℤ, sym, refl, ap, ◌∙◌, arith, length-take-le, get_or-take, ext_get_or}
 use mathlib.Core.Option.{Option, none, some}
-use lib.ListN.{length-replicate}
 use Rattle.integers.specs.Places.{tabulate}
 use Rattle.integers.proofs.Places.{if-true, if-false, length-tabulate, get_d_tabulate}
 use Rattle.instance.specs.Instance.{Instance}
@@ -15,7 +14,6 @@ use Rattle.messages.specs.Step.{Settled, settle, settled}
 use Rattle.messages.specs.Incumbent.{adopted_of}
 use Rattle.messages.specs.Rounded.{costs_by, rounded_by}
 use Rattle.messages.specs.RoundRecord.{RoundMove, round_move, round_left, round_taken}
-use Rattle.messages.specs.declared.rounding.Rounding.{Rounding}
 use Rattle.messages.proofs.IncumbentLaws.{adopt_is}
 use Rattle.messages.proofs.RoundTurns.{round_costs}
 
@@ -28,42 +26,35 @@ take_places x n e h =
     ext_get_or 0 (take n t) x (m ∙ sym e)
     (λ k l. get_or-take n t k 0 (omega arith) ∙ get_d_tabulate 64 (λ k. get_or x k 0) k 0 (omega arith))
 
--- an answer has 64 places
-rounded_long : (o : Option (List ℕ)) → length (rounded_by o).positions ≡ 64
-unfolding rounded_by
-rounded_long none = length-replicate {A = ℕ} 64 0
-rounded_long (some x) = length-tabulate 64 (λ k. get_or x k 0)
-
-pub places_long : (o : Option (List ℕ)) (r : Rounding) → r ≡ rounded_by o → length r.positions ≡ 64
-places_long o r e = ap (λ (z : Rounding). length z.positions) e ∙ rounded_long o
-
--- an answer that says stuck is of no rounding
-stuck_none : (I : Instance) (o : Option (List ℕ)) (old : List ℕ) → (rounded_by o).stuck ≡ true → round_move old 1 0 ≡ round_left I o old
+-- no answer is of no rounding
+pub stuck_left : (I : Instance) (o : Option (List ℕ)) (old : List ℕ) → None ≡ rounded_by o → round_move old 1 0 ≡ round_left I o old
 unfolding rounded_by round_left
-stuck_none I none old t = refl
-stuck_none I (some x) old t = absurd (let z : ◌≡◌ {A = ℕ} 0 1 = cc t in omega arith)
+stuck_left I none old e = refl
+stuck_left I (some x) old e = cc e
 
-pub stuck_left : (I : Instance) (o : Option (List ℕ)) (old : List ℕ) (r : Rounding) → r ≡ rounded_by o → r.stuck ≡ true → round_move old 1 0 ≡ round_left I o old
-stuck_left I o old r e t = stuck_none I o old (sym (ap (λ (z : Rounding). z.stuck) e) ∙ t)
-
--- and one that does not has what was found in its first places
-first_places_lem : (n : ℕ) (o : Option (List ℕ)) → ((x : List ℕ) → o ≡ some x → length x ≡ n) → n ≤ 64 → (rounded_by o).stuck ≡ false → o ≡ some (take n (rounded_by o).positions)
+-- an answer has 64 places, and what was found in the first of them
+answered : (n : ℕ) (o : Option (List ℕ)) (x : List ℕ) → ((y : List ℕ) → o ≡ some y → length y ≡ n) → n ≤ 64 → Some x ≡ rounded_by o → (length x ≡ 64) × (o ≡ some (take n x))
 unfolding rounded_by
-first_places_lem n none l h f = absurd (let z : ◌≡◌ {A = ℕ} 0 1 = cc f in omega arith)
-first_places_lem n (some x) l h f = ap some (sym (take_places x n (l x refl) h))
+answered n none x l h e = cc e
+answered n (some y) x l h e =
+    let z : x ≡ tabulate 64 (λ k. get_or y k 0) = cc e in rw z (length-tabulate 64 (λ k. get_or y k 0), ap some (sym (take_places y n (l y refl) h)))
 
-module _ (I : Instance) (c : Costs) (n : ℕ) (e : n ≡ I.node_count) (few : n ≤ 64) (r : Rounding) (a : r ≡ rounded_by (round I c)) (f : r.stuck ≡ false) where
-  pub found : round I c ≡ some (take n r.positions)
-  found =
-      first_places_lem n (round I c) (λ x z. (round_matching I c x z).labelling.size ∙ sym e) few (sym (ap (λ (z : Rounding). z.stuck) a) ∙ f)
-      ∙ ap (λ (z : Rounding). some (take n z.positions)) (sym a)
+module _ (I : Instance) (c : Costs) (n : ℕ) (e : n ≡ I.node_count) (few : n ≤ 64) (x : List ℕ) (a : Some x ≡ rounded_by (round I c)) where
+  both : (length x ≡ 64) × (round I c ≡ some (take n x))
+  both = answered n (round I c) x (λ y z. (round_matching I c y z).labelling.size ∙ sym e) few a
+
+  pub places_long : length x ≡ 64
+  places_long = both.0
+
+  found : round I c ≡ some (take n x)
+  found = both.1
 
   -- which is a labelling
-  pub found_labelling : Labelling I (take n r.positions)
-  found_labelling = (round_matching I c (take n r.positions) found).labelling
+  pub found_labelling : Labelling I (take n x)
+  found_labelling = (round_matching I c (take n x) found).labelling
 
   -- and may replace the incumbent
-  pub found_left : (old new : List ℕ) → new ≡ adopted_of I (take n r.positions) old → round_move new 0 0 ≡ round_left I (round I c) old
+  pub found_left : (old new : List ℕ) → new ≡ adopted_of I (take n x) old → round_move new 0 0 ≡ round_left I (round I c) old
   unfolding round_left
   found_left old new z = ap (λ (l : List ℕ). round_move l 0 0) z ∙ sym (ap (λ (o : Option (List ℕ)). round_left I o old) found)
 

@@ -1,6 +1,6 @@
 -- Rounding node by node: what is known after u nodes, what the code's choice is, and a turn. Rounding looks at no label cost.
 -- Assumes nothing.
-use Rattle.std.proofs.Common.{◌≡◌, ℕ, zero, suc, ◌+◌, ◌<◌, ◌≤◌, Bool, true, false, cond, not, eqb, ltb, List, [], ◌∷◌, ◌++◌, length, get_or, take, set, replicate, ℤ, pos, ◌+ℤ◌, sym, refl, ap, ◌∙◌, ap₂, add-one, arith, length-set, length-take, get_or-set_other, get_or-take, get_or-set_same, take-suc-set, ext_get_or, ltb-false, ltb-true, lt-ltb, eqb-true}
+use Rattle.std.proofs.Common.{◌≡◌, ℕ, zero, suc, ◌+◌, ◌<◌, ◌≤◌, Bool, true, false, cond, not, eqb, ltb, None, Some, List, [], ◌∷◌, ◌++◌, length, get_or, take, set, replicate, ℤ, pos, ◌+ℤ◌, sym, refl, ap, ◌∙◌, ap₂, add-one, arith, length-set, length-take, get_or-set_other, get_or-take, get_or-set_same, take-suc-set, ext_get_or, ltb-false, ltb-true, lt-ltb, eqb-true}
 use mathlib.Core.List.Memᴰ.{head as here}
 use mathlib.Core.List.Memᴰ.{tail as there}
 use mathlib.Core.List.{Memᴰ as Mem}
@@ -76,17 +76,17 @@ key_agree I p c x y u a k =
     ap (λ (z : ℕ). only (eqb (I.high e) u) (c.edge (cell I e z k))) (a (I.low e) (omega (arith, p.ordered e h))))
     (λ t. if-false (c.edge (cell I e (position x (I.low e)) k)) (pos 0) t ∙ sym (if-false (c.edge (cell I e (position y (I.low e)) k)) (pos 0) t))))
 
--- ---- a number for the choice
+-- ---- the choice as the code answers it
 
-choice_none : (o : Option ℕ) → ((b : ℕ) → o ≡ some b → b < 16) → or_none o ≡ 16 → o ≡ none
+choice_none : (o : Option ℕ) → None ≡ or_none o → o ≡ none
 unfolding or_none
-choice_none none f e = refl
-choice_none (some b) f e = absurd (let l = f b refl in omega arith)
+choice_none none e = refl
+choice_none (some b) e = cc e
 
-choice_some : (o : Option ℕ) (k : ℕ) → k ≡ or_none o → (k ≡ 16 → ⊥) → o ≡ some k
+choice_some : (o : Option ℕ) (k : ℕ) → Some k ≡ or_none o → o ≡ some k
 unfolding or_none
-choice_some none k e d = absurd (d e)
-choice_some (some b) k e d = ap some (sym e)
+choice_some none k e = cc e
+choice_some (some b) k e = cc e
 
 -- ---- after u nodes
 
@@ -120,7 +120,7 @@ module _ {s : List ℕ} {v : View} (w : Viewed s v) (nodes edges : List ℤ) whe
   good = proper s w.readable
 
   module _ {x : List ℕ} {untaken : List Bool} {u : ℕ} (t : RoundTurn s v.nodes nodes edges x untaken u) where
-    pub round_done : v.nodes ≤ u → record { stuck = false; positions = x } ≡ rounded_by (round I c)
+    pub round_done : v.nodes ≤ u → Some x ≡ rounded_by (round I c)
     unfolding rounded_by
     round_done h =
         let e : u ≡ I.node_count = omega (arith, t.within, w.nodes) in
@@ -130,7 +130,7 @@ module _ {s : List ℕ} {v : View} (w : Viewed s v) (nodes edges : List ℤ) whe
         (λ k l. sym (get_d_tabulate 64 (λ k. get_or (take u x) k 0) k 0 (omega (arith, t.size))
         ∙ by-test (ltb k u) (λ q. get_or-take u x k 0 (ltb-true k u q))
         (λ q. let m : u ≤ k = ltb-false k u q in get_or-eq_default (take u x) 0 (omega (arith, length-take u x)) ∙ sym (t.rest k m)))) in
-        (λ j. record { stuck = false; positions = p j }) ∙ ap rounded_by (sym t.done ∙ ap (round_below I c) e)
+        ap Some p ∙ ap rounded_by (sym t.done ∙ ap (round_below I c) e)
 
     module _ (inside : u < v.nodes) where
       node : u < I.node_count
@@ -160,35 +160,36 @@ module _ {s : List ℕ} {v : View} (w : Viewed s v) (nodes edges : List ℤ) whe
           ∙ get_d_tabulate 256 (unused I x u) (I.label (first I u + k)) false (label_few k h)
           ∙ sym (free_is I (take u x) u k ∙ unused_agree I (take u x) x u agree (I.label (first I u + k))))))
 
-      -- a choice k, and what comes of it
-      module _ {k : ℕ} (e : k ≡ or_none (choice I c (take u x) u)) where
-        pub round_stop : k ≡ 16 → rounded_by none ≡ rounded_by (round I c)
-        round_stop q =
-            let z = choice_none (choice I c (take u x) u) (λ b g. let l = choice_inside b g in omega (arith, good.few u node)) (sym e ∙ q) in
-            ap rounded_by (sym (round_stuck I c (suc u) I.node_count (round_stops I c u t.done z) node))
+      -- no choice, and what comes of it
+      pub round_stop : None ≡ or_none (choice I c (take u x) u) → None ≡ rounded_by (round I c)
+      unfolding rounded_by
+      round_stop e =
+          let z = choice_none (choice I c (take u x) u) e in
+          ap rounded_by (sym (round_stuck I c (suc u) I.node_count (round_stops I c u t.done z) node))
 
-        module _ (q : k ≡ 16 → ⊥) where
-          taken : choice I c (take u x) u ≡ some k
-          taken = choice_some (choice I c (take u x) u) k e q
+      -- a choice k
+      module _ {k : ℕ} (e : Some k ≡ or_none (choice I c (take u x) u)) where
+        taken : choice I c (take u x) u ≡ some k
+        taken = choice_some (choice I c (take u x) u) k e
 
-          pub position_inside : k < I.degree u
-          position_inside = choice_inside k taken
+        pub position_inside : k < I.degree u
+        position_inside = choice_inside k taken
 
-          placed_now : position (set x u k) u ≡ k
-          placed_now = get_or-set_same x u k 0 (omega (arith, t.size, node_few))
+        placed_now : position (set x u k) u ≡ k
+        placed_now = get_or-set_same x u k 0 (omega (arith, t.size, node_few))
 
-          chosen_now : I.label (first I u + k) ≡ I.label (chosen I (set x u k) u)
-          unfolding chosen
-          chosen_now = ap (λ (z : ℕ). I.label (first I u + z)) (sym placed_now)
+        chosen_now : I.label (first I u + k) ≡ I.label (chosen I (set x u k) u)
+        unfolding chosen
+        chosen_now = ap (λ (z : ℕ). I.label (first I u + z)) (sym placed_now)
 
-          pub round_turn : {l : ℕ} {once : Bool} → l ≡ I.label (first I u + k) → once ≡ exclusive l → RoundTurn s v.nodes nodes edges (set x u k) (set untaken l (not once)) (u + 1)
-          round_turn {l} el eo = record {
-            within = omega arith;
-            size = length-set x u k ∙ t.size;
-            done = rw (add-one u) (round_next I c u t.done taken ∙ ap some (sym (take-suc-set x u k (omega (arith, t.size, node_few)))));
-            placed = λ w h. by-test (eqb w u)
-                (λ z. let y : w ≡ u = eqb-true w u z in rw (y, placed_now) position_inside)
-                (λ z. let y : w ≡ u → ⊥ = eqb-false w u z in rw (get_or-set_other x u w k 0 y) (t.placed w (omega arith)));
-            rest = λ j h. get_or-set_other x u j k 0 (λ z. omega arith) ∙ t.rest j (omega arith);
-            labels = ap₂ (λ (b : List Bool) (v : Bool). set b l (not v)) t.labels eo ∙ untaken_more I x (set x u k) u (λ w h. get_or-set_other x u w k 0 (λ z. omega arith)) l (el ∙ chosen_now);
-          }
+        pub round_turn : {l : ℕ} {once : Bool} → l ≡ I.label (first I u + k) → once ≡ exclusive l → RoundTurn s v.nodes nodes edges (set x u k) (set untaken l (not once)) (u + 1)
+        round_turn {l} el eo = record {
+          within = omega arith;
+          size = length-set x u k ∙ t.size;
+          done = rw (add-one u) (round_next I c u t.done taken ∙ ap some (sym (take-suc-set x u k (omega (arith, t.size, node_few)))));
+          placed = λ w h. by-test (eqb w u)
+              (λ z. let y : w ≡ u = eqb-true w u z in rw (y, placed_now) position_inside)
+              (λ z. let y : w ≡ u → ⊥ = eqb-false w u z in rw (get_or-set_other x u w k 0 y) (t.placed w (omega arith)));
+          rest = λ j h. get_or-set_other x u j k 0 (λ z. omega arith) ∙ t.rest j (omega arith);
+          labels = ap₂ (λ (b : List Bool) (v : Bool). set b l (not v)) t.labels eo ∙ untaken_more I x (set x u k) u (λ w h. get_or-set_other x u w k 0 (λ z. omega arith)) l (el ∙ chosen_now);
+        }

@@ -1,18 +1,17 @@
 -- Rows of costs as the code goes through them: the least over two parts, a test of each cost, and the range of a cost.
 -- Assumes nothing.
-use Rattle.std.proofs.Common.{◌≡◌, ℕ, zero, suc, ◌^◌, ◌<◌, ◌≤◌, Bool, true, false, T, List, [], ◌∷◌, length, get_or, ℤ, pos, negsuc, ◌+ℤ◌, ◌-ℤ◌, neg_ℤ, nat_abs, ◌≤ℤ◌, ◌<ℤ◌, sym, refl, ap, ◌∙◌, ap₂, not-suc-le-zero, arith, to_z-of_z, w64, Fits, SFits, to_z, of_z}
-use lib.Signed.{non_neg}
+use Rattle.std.proofs.Common.{◌≡◌, ℕ, zero, suc, ◌^◌, ◌<◌, ◌≤◌, Bool, true, false, List, [], ◌∷◌, length, get_or, ℤ, pos, negsuc, ◌+ℤ◌, ◌-ℤ◌, neg_ℤ, nat_abs, ◌<ℤ◌, sym, refl, ap, ◌∙◌, ap₂, not-suc-le-zero, arith, to_z-of_z, w64, SFits, to_z, of_z}
 use Rattle.std.specs.Int.{int_min}
 use Rattle.std.proofs.Common.{int_lt}
 use Rattle.integers.proofs.Order.{min_comm, min_eq_left, min_eq_right}
 use Rattle.integers.specs.Least.{min_ℤ, least_from, least_of}
+use Rattle.std.specs.List.{AllWithin, HoldsAt}
+use Rattle.std.specs.Bool.{MatchBool}
 use Rattle.integers.specs.Share.{nearest, share, amount}
 use Rattle.integers.specs.Sum.{Within}
 use Rattle.integers.specs.Places.{every}
 use Rattle.integers.specs.Checks.{below, within}
 use Rattle.integers.proofs.Parts.{linear, abs, add, sub, neg}
-use Rattle.integers.proofs.Bits.{low}
-use Rattle.integers.proofs.Share.{nearest_le, share-pos}
 use Rattle.integers.proofs.Places.{by-test, both_ways, if-true, if-false, and_true}
 use Rattle.integers.proofs.Checks.{below_at, below_all, below_fails, within_le}
 use Rattle.integers.proofs.Least.{least_min, least_within}
@@ -51,6 +50,11 @@ module _ {A : Type 0} (t : A → Bool) where
 
   pub every_fails : (l : List A) (d : A) (i : ℕ) → i < length l → t (get_or l i d) ≡ false → every t l ≡ false
   every_fails l d i h e = every_is l d ∙ below_fails (length l) (λ i. t (get_or l i d)) i h e
+
+  -- by what a search for one that fails finds
+  pub every_found : (l : List A) (d : A) (r : Bool) → MatchBool r (AllWithin (λ x. t x ≡ true) l 0 (length l)) ((i : ℕ) × (i < length l) × HoldsAt (λ x. t x ≡ false) l i) → r ≡ every t l
+  every_found l d true h = sym (every_below l d (λ i k. h i d (omega arith) k))
+  every_found l d false h = sym (every_fails l d h.0 h.1 (h.2 d))
 
 -- ---- the range of a cost
 

@@ -1,6 +1,6 @@
 -- Where the labels of an edge's one end have a label of the other end that only one node may take: the cell there is unusable (document 02, wish 2).
 -- Labels rise within a node, so that there is at most one such place.
-use Rattle.std.specs.Prelude.{◌≡◌, ℕ, suc, ◌%◌, ◌^◌, ◌<◌, ◌≤◌, Bool, true, not, Option, Some, IfSome, List, length, nat_eq, slice_index}
+use Rattle.std.specs.Prelude.{◌≡◌, ℕ, suc, ◌%◌, ◌^◌, ◌<◌, Bool, true, not, Option, Some, IfSome, List, length, nat_eq, slice_index}
 use Rattle.std.specs.Option.{option_eq}
 use Rattle.integers.specs.Words.{bit}
 use Rattle.instance.specs.Instance.{usable}

@@ -1,6 +1,6 @@
 -- What rounding's code answers and asks: keys as an array, the choice as a number, and the positions in an array of 64.
-use Rattle.std.specs.Prelude.{ℕ, ◌+◌, ◌*◌, ◌<◌, Bool, true, false, cond, List, [], ◌∷◌, get_or, replicate, ℤ, pos, ◌+ℤ◌, ◌==◌, int_lt, nat_lt, slice_index, slice_index_or}
-use Rattle.std.proofs.Math.Option.{Option, none, some}
+use Rattle.std.specs.Prelude.{ℕ, ◌+◌, ◌*◌, ◌<◌, Bool, false, cond, Option, None, Some, List, [], ◌∷◌, get_or, ℤ, pos, ◌+ℤ◌, int_lt, nat_lt, slice_index, slice_index_or}
+use Rattle.std.proofs.Math.Option.{Option as Choice, none, some}
 use Rattle.integers.specs.Rows.{part}
 use Rattle.integers.specs.Places.{range, select, tabulate, only}
 use Rattle.instance.specs.Instance.{Instance, table}
@@ -11,7 +11,6 @@ use Rattle.messages.specs.declared.view.View.{View}
 use Rattle.messages.specs.Lent.{NodeFits, EdgeFits}
 use Rattle.messages.specs.Seen.{Seen}
 use Rattle.index.specs.Index.{Indexed}
-use Rattle.messages.specs.declared.rounding.Rounding.{Rounding}
 
 -- the costs of lent node and edge buffers
 abbrev pub costs_by : List ℤ → List ℤ → Costs
@@ -21,10 +20,10 @@ costs_by nodes edges = record {
   edge = λ j. slice_index_or edges j (pos 0);
 }
 
--- the answer: stuck, or a position for each node and 0 in the unused places
-unfoldable pub rounded_by : Option (List ℕ) → Rounding
-rounded_by none = record { stuck = true; positions = replicate 64 0 }
-rounded_by (some x) = record { stuck = false; positions = tabulate 64 (λ k. slice_index x k) }
+-- the answer: a position for each node and 0 in the unused places, or none where rounding is stuck
+unfoldable pub rounded_by : Choice (List ℕ) → Option (List ℕ)
+rounded_by none = None
+rounded_by (some x) = Some (tabulate 64 (λ k. slice_index x k))
 
 -- ---- the keys
 
@@ -44,17 +43,18 @@ edge_row I edges x e = part edges (table I e + I.degree (I.high e) * position x 
 
 -- ---- the choice
 
--- 16 is no position
-unfoldable pub or_none : Option ℕ → ℕ
-or_none none = 16
-or_none (some k) = k
+-- the rules' choice as the code answers it
+unfoldable pub or_none : Choice ℕ → Option ℕ
+or_none none = None
+or_none (some k) = Some k
 
--- the best so far, or 16, against a position k
-unfoldable pub better : Bool → (ℕ → ℤ) → ℕ → ℕ → ℕ
-better free key b k = cond free (cond (b == 16) k (cond (int_lt (key k) (key b)) k b)) b
+-- the best so far, if there is one, against a position k
+unfoldable pub better : Bool → (ℕ → ℤ) → Option ℕ → ℕ → Option ℕ
+better free key None k = cond free (Some k) None
+better free key (Some b) k = cond free (cond (int_lt (key k) (key b)) (Some k) (Some b)) (Some b)
 
 -- of the first positions, those whose labels are untaken; the node's places begin at `at`
-unfoldable pub chosen_from : Instance → ℕ → List ℤ → List Bool → ℕ → ℕ
+unfoldable pub chosen_from : Instance → ℕ → List ℤ → List Bool → ℕ → Option ℕ
 chosen_from I at keys untaken degree = or_none (best (λ k. get_or keys k (pos 0)) (select (λ k. get_or untaken (I.label (at + k)) false) (range 0 degree)))
 
 -- ---- what is asked

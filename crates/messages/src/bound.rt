@@ -12,7 +12,7 @@ ghost use Rattle.messages.specs.Seen.{Viewed, starts_of, labels_of};
 ghost use Rattle.messages.specs.EdgeMessage.{usable_cells};
 ghost use Rattle.messages.specs.Bounds.{row_least, table_least, least_labels};
 
-use crate::rows::{least_of, plus, smaller};
+use crate::rows::{least_of, plus};
 use crate::usable::usable_least;
 use crate::view::{View, degree_of, high_end, label_at, labels_of, low_end};
 
@@ -85,7 +85,7 @@ fn label_leasts(sheet: &[u8], view: View, labels: &[i64]) -> [i64; 256]
     let mut i = 0;
     while i < labels.len() {
         let l = label_at(sheet, view, i);
-        least[l] = smaller(labels[i], least[l]);
+        least[l] = least[l].min(labels[i]);
         i += 1;
     }
     least

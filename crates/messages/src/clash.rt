@@ -28,9 +28,13 @@ fn place_of(labels: &[u8], label: u8) -> Option<usize>
     requires { Rising labels.now }
     ensures { Skips labels.now label result }
 {
-    labels
-        .iter()
-        .position(|other| !usable(wide(label), wide(*other)))
+    // Kept: `position` is the same in one line, and the report then takes a tenth longer.
+    for (p, other) in labels.iter().enumerate() {
+        if !usable(wide(label), wide(*other)) {
+            return Some(p);
+        }
+    }
+    None
 }
 
 // The same by the labels' mask: most labels are none of the other end's, and their bit says so at once.

@@ -205,6 +205,7 @@ fn each_cell_fits(
     ensures { result ≡ every (within limit) (moved_cells by_row width amounts.now cells.now) }
 {
     let mut all = 0;
+    // Kept: a row by its place, as where it is moved (`move_cells`), so that both share one law of a row.
     for k in 0..height {
         let a = k * width;
         let b = a + width;
@@ -271,6 +272,7 @@ pub(crate) fn move_cells(
     requires within_2 { Within (2 ^ 41) amounts.now }
     ensures { cells.new ≡ moved_cells by_row width amounts.now cells.old }
 {
+    // Kept: a row by its place, since a proof knows nothing of what is written through `chunks_exact_mut`.
     for k in 0..height {
         let a = k * width;
         let b = a + width;

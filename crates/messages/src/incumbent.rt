@@ -16,25 +16,14 @@ use instance::exclusive;
 pub(crate) fn all_none(x: &[u8]) -> bool
     ensures { result ≡ every (nat_eq 255) x.now }
 {
-    let mut i = 0;
-    while i < x.len() {
-        if x[i] == 255 {
-            i += 1;
-        } else {
-            return false;
-        }
-    }
-    true
+    x.iter().all(|k| *k == 255)
 }
 
 // Whether none is kept; of no nodes the empty matching is.
 pub(crate) fn none_kept(x: &[u8]) -> bool
     ensures { result ≡ none_kept x.now }
 {
-    if x.len() == 0 {
-        return false;
-    }
-    all_none(x)
+    !x.is_empty() && all_none(x)
 }
 
 // Whether each node has a position whose label is 255 or no lower node's. `untaken` has the labels that may be taken still, 255 always.
@@ -141,18 +130,6 @@ fn replaces(
     price(sheet, view, starts, tables, x) < price(sheet, view, starts, tables, old)
 }
 
-// Copies bytes.
-fn copy(from: &[u8], to: &mut [u8])
-    requires { length from.now ≡ length to.old }
-    ensures { to.new ≡ from.now }
-{
-    let mut i = 0;
-    while i < from.len() {
-        to[i] = from[i];
-        i += 1;
-    }
-}
-
 // Puts a labelling in the incumbent's place where it replaces it.
 pub(crate) fn adopt(
     sheet: &[u8],
@@ -168,6 +145,6 @@ pub(crate) fn adopt(
     ensures { incumbent.new ≡ adopted_of (instance_of sheet.now) x.now incumbent.old }
 {
     if replaces(sheet, view, starts, tables, x, incumbent) {
-        copy(x, incumbent);
+        incumbent.copy_from_slice(x);
     }
 }

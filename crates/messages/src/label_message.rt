@@ -12,7 +12,7 @@ ghost use Rattle.index.specs.Index.{many, held};
 ghost use Rattle.messages.specs.LabelMessage.{label_moved, label_move, node_amount, label_amount, label_given, PlaceAsked, Holders};
 
 use crate::records::Record;
-use crate::rows::{amount_of, in_range, minus, plus, share_of, smaller};
+use crate::rows::{amount_of, in_range, minus, plus, share_of};
 use crate::view::{View, degree_of, label_at};
 use index::number;
 use instance::refusal::{COST_OVERFLOW, NONE};
@@ -45,7 +45,7 @@ fn meet(labels: &[i64], place: usize, own: usize, best: i64) -> i64
     if place == own {
         best
     } else {
-        smaller(labels[place], best)
+        best.min(labels[place])
     }
 }
 

@@ -33,11 +33,9 @@ fn round_and_adopt(
     requires incumbent_fits { IncumbentFits sheet.now incumbent.old }
     ensures { round_move incumbent.new result 0 ≡ round_left (instance_of sheet.now) (round (instance_of sheet.now) (costs_by nodes.now edges.now)) incumbent.old }
 {
-    let rounding = round_all(sheet, view, starts, tables, lowers, nodes, edges);
-    if rounding.stuck {
+    let Some(x) = round_all(sheet, view, starts, tables, lowers, nodes, edges) else {
         return 1;
-    }
-    let x = rounding.positions;
+    };
     let n = view.nodes;
     adopt(sheet, view, starts, tables, &x[..n], incumbent);
     0

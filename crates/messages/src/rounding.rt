@@ -1,6 +1,5 @@
 // Rounding by equation (10): node by node the free position with the least key, the lowest of equals. Document 01, record 5.
-ghost use Rattle.std.specs.Prelude.{◌≡◌, ℕ, ◌+◌, ◌^◌, ◌<◌, ◌≤◌, length, pos, slice_index_or};
-ghost use Rattle.std.proofs.Math.Option.{none};
+ghost use Rattle.std.specs.Prelude.{◌≡◌, ℕ, ◌+◌, ◌^◌, ◌<◌, ◌≤◌, IfSome, length, pos, slice_index_or};
 ghost use Rattle.integers.specs.Sum.{Within};
 ghost use Rattle.instance.specs.Instance.{node_cells};
 ghost use Rattle.instance.specs.Sheet.{instance_of};
@@ -14,13 +13,6 @@ use crate::view::{View, degree_of, label_at, low_end};
 use index::{number, wide};
 use instance::exclusive;
 
-// What rounding answers: a position for each node, or that no label was left for one.
-#[derive(Clone, Copy)]
-pub(crate) struct Rounding {
-    pub stuck: bool,
-    pub positions: [u8; 64],
-}
-
 // Adds a row of costs to the keys, place by place.
 fn add_cells(keys: &mut [i64], row: &[i64])
     requires row_in_bounds { length row.now ≤ length keys.old }
@@ -28,10 +20,8 @@ fn add_cells(keys: &mut [i64], row: &[i64])
     requires within_2 { Within cost_limit row.now }
     ensures { keys.new ≡ added keys.old row.now }
 {
-    let mut i = 0;
-    while i < row.len() {
-        keys[i] = keys[i] + row[i];
-        i += 1;
+    for (i, cost) in row.iter().enumerate() {
+        keys[i] = keys[i] + *cost;
     }
 }
 
@@ -89,23 +79,21 @@ fn keys_of(
     keys
 }
 
-// The better of the best so far, 16 if there is none, and the position `k`, which counts if it is free.
-fn better_of(free: bool, keys: &[i64; 16], best: usize, k: usize) -> usize
-    requires { (best ≤ 16) × (k < 16) }
+// The better of the best so far, if there is one, and the position `k`, which counts if it is free.
+fn better_of(free: bool, keys: &[i64; 16], best: Option<usize>, k: usize) -> Option<usize>
+    requires { IfSome best (λ b. b < 16) × (k < 16) }
     ensures { result ≡ better free (λ (i : ℕ). slice_index_or keys.now i (pos 0)) best k }
 {
-    if free {
-        if best == 16 {
-            return k;
-        }
-        if keys[k] < keys[best] {
-            return k;
-        }
+    if !free {
+        return best;
     }
-    best
+    match best {
+        Some(b) if keys[b] <= keys[k] => best,
+        _ => Some(k),
+    }
 }
 
-// The position with the least key of those whose labels may still be taken, the lowest of equals, and 16 if there is none. The node's places begin at `at`.
+// The position with the least key of those whose labels may still be taken, the lowest of equals, if there is one. The node's places begin at `at`.
 fn choose(
     sheet: &[u8],
     view: View,
@@ -113,31 +101,19 @@ fn choose(
     degree: usize,
     keys: &[i64; 16],
     untaken: &[bool; 256],
-) -> usize
+) -> Option<usize>
     requires { Viewed sheet.now view × (degree ≤ 16) × (at + degree ≤ node_cells (instance_of sheet.now)) }
     ensures { result ≡ chosen_from (instance_of sheet.now) at keys.now untaken.now degree }
 {
-    let mut best = 16;
-    let mut k = 0;
-    while k < degree {
+    let mut best = None;
+    for k in 0..degree {
         let label = label_at(sheet, view, at + k);
         best = better_of(untaken[label], keys, best, k);
-        k += 1;
     }
     best
 }
 
-// The answer where no label is left.
-fn stuck() -> Rounding
-    ensures { result ≡ rounded_by none }
-{
-    Rounding {
-        stuck: true,
-        positions: [0u8; 64],
-    }
-}
-
-// Rounds by the costs in `nodes` and `edges`: `x` has the positions of the nodes below `u`, and `untaken` the labels that may still be taken: 255, and those that none of them takes.
+// Rounds by the costs in `nodes` and `edges`: a position for each node, or none where no label is left for one. `x` has the positions of the nodes below `u`, and `untaken` the labels that may still be taken: 255, and those that none of them takes.
 pub(crate) fn round_all(
     sheet: &[u8],
     view: View,
@@ -146,7 +122,7 @@ pub(crate) fn round_all(
     lowers: &[u16; 4160],
     nodes: &[i64],
     edges: &[i64],
-) -> Rounding
+) -> Option<[u8; 64]>
     requires { RoundAsked sheet.now view starts.now tables.now lowers.now nodes.now edges.now }
     ensures { result ≡ rounded_by (round (instance_of sheet.now) (costs_by nodes.now edges.now)) }
 {
@@ -157,17 +133,11 @@ pub(crate) fn round_all(
     while u < n {
         let keys = keys_of(sheet, view, starts, tables, lowers, nodes, edges, &x, u);
         let at = starts[u];
-        let k = choose(sheet, view, at, degree_of(sheet, u), &keys, &untaken);
-        if k == 16 {
-            return stuck();
-        }
+        let k = choose(sheet, view, at, degree_of(sheet, u), &keys, &untaken)?;
         x[u] = k as u8;
         let label = label_at(sheet, view, at + k);
         untaken[label] = !exclusive(label);
         u += 1;
     }
-    Rounding {
-        stuck: false,
-        positions: x,
-    }
+    Some(x)
 }

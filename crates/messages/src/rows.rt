@@ -9,14 +9,8 @@ ghost use Rattle.integers.specs.Places.{every};
 ghost use Rattle.integers.specs.Checks.{within};
 ghost use Rattle.rules.specs.Calls.{cost_limit};
 
-// The less of two.
-pub(crate) fn smaller(a: i64, b: i64) -> i64
-    ensures { result ≡ min_ℤ a b }
-{
-    a.min(b)
-}
-
 // A sum that fits.
+// Kept, with the difference: as a call it asks for its range once; written out, each reading of it would ask again.
 pub(crate) fn plus(a: i64, b: i64) -> i64
     requires { FitsSigned w64 (a +ℤ b) }
     ensures { result ≡ a +ℤ b }
@@ -37,7 +31,7 @@ pub(crate) fn less_at(row: &[i64], i: usize, best: i64) -> i64
     requires { i < length row.now }
     ensures { result ≡ min_ℤ (slice_index_or row.now i (pos 0)) best }
 {
-    smaller(row[i], best)
+    best.min(row[i])
 }
 
 // The least of `start` and the costs of a row, one after the other.
@@ -59,15 +53,15 @@ pub(crate) fn least(row: &[i64], start: i64) -> i64
     let mut b = start;
     let mut c = start;
     let mut d = start;
-    let mut i = 0;
-    while 3 < row.len() - i {
-        a = less_at(row, i, a);
-        b = less_at(row, i + 1, b);
-        c = less_at(row, i + 2, c);
-        d = less_at(row, i + 3, d);
-        i += 4;
+    let mut rest = row;
+    while let Some((four, more)) = rest.split_first_chunk::<4>() {
+        a = a.min(four[0]);
+        b = b.min(four[1]);
+        c = c.min(four[2]);
+        d = d.min(four[3]);
+        rest = more;
     }
-    least_in_turn(&row[i..], smaller(smaller(a, b), smaller(c, d)))
+    least_in_turn(rest, a.min(b).min(c.min(d)))
 }
 
 // Above every cost: the least of no costs.

@@ -1,9 +1,10 @@
 -- `label_leasts` meets its contract: the places are gone through, each label's least kept in its place.
 use Rattle.std.proofs.Common.{◌≡◌, length, get_or, pos, ap, ◌∙◌, ap₂, arith, to_z-of_z, w64, rules}
-use Rattle.integers.specs.Least.{min_ℤ}
-use Rattle.integers.proofs.Bits.{same}
+use Rattle.std.specs.Int.{int_min}
+use Rattle.integers.proofs.Bits.{answer}
 use Rattle.instance.specs.Sheet.{instance_of}
 use Rattle.messages.specs.Bounds.{least_labels}
+use Rattle.messages.proofs.RowLaws.{less_back}
 use Rattle.messages.proofs.LabelLaws.{leasts_none, leasts_turn}
 use Rattle.messages.proofs.bound.label_leasts.Goals as goal
 
@@ -32,7 +33,7 @@ loop-i-preserved c =
     let y = get_or c.loop-i.least c.label_at-l.result (pos 0) in (
       omega arith,
       leasts_turn (instance_of a.sheet.now) a.labels.now c.loop-i.invariant.1 c.label_at-l.ensures.0 c.label_at-l.ensures.1
-          (same c.smaller.result c.smaller.type_inv ∙ c.smaller.ensures ∙ ap₂ min_ℤ (to_z-of_z {w = w64} {z = x} (search rules)) (to_z-of_z {w = w64} {z = y} (search rules))),
+          (answer c.min.type_inv (c.min.ensures.value ∙ ap₂ int_min (to_z-of_z {w = w64} {z = y} (search rules)) (to_z-of_z {w = w64} {z = x} (search rules)) ∙ less_back y x)),
     )
 
 pub returns : goal.returns

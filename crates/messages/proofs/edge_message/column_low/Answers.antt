@@ -1,5 +1,5 @@
 -- `column_low` meets its contract. The loop's invariant: `best` is the column's least over the first r rows but for `skip`.
-use Rattle.std.proofs.Common.{◌≡◌, ℕ, ◌+◌, ◌*◌, ◌<◌, ◌≤◌, length, get_or, ℤ, pos, sym, ap, ◌∙◌, ap₂, mul_comm, arith}
+use Rattle.std.proofs.Common.{◌≡◌, ℕ, ◌+◌, ◌*◌, get_or, ℤ, pos, sym, ap, ◌∙◌, ap₂, mul_comm, arith}
 use Rattle.integers.specs.Least.{min_ℤ}
 use Rattle.integers.proofs.Bits.{answer}
 use Rattle.messages.specs.EdgeMessage.{unbounded}

@@ -1,5 +1,5 @@
 -- `column_low` meets its contract. The loop's invariant: `best` is the column's least over the first r rows but for `skip`.
-use Rattle.std.proofs.Common.{◌≡◌, ℕ, ◌+◌, ◌-◌, ◌*◌, ◌≤◌, List, get_or, ℤ, pos}
+use Rattle.std.proofs.Common.{◌≡◌, ℕ, ◌+◌, ◌*◌, List, get_or, ℤ, pos}
 use Rattle.messages.specs.EdgeMessage.{unbounded}
 use Rattle.messages.proofs.UsableLaws.{least_but}
 use Rattle.messages.proofs.edge_message.column_low.Given as goal

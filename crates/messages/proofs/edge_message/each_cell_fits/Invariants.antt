@@ -1,5 +1,5 @@
 -- `each_cell_fits` meets its contract: what each row gives is joined, so the test at the end is that of each row.
-use Rattle.std.proofs.Common.{◌≡◌, ◌-◌, ◌*◌}
+use Rattle.std.proofs.Common.{◌*◌}
 use Rattle.integers.specs.Checks.{within}
 use Rattle.integers.specs.Places.{every}
 use Rattle.integers.specs.Rows.{part}

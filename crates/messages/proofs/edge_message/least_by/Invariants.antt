@@ -1,5 +1,5 @@
 -- `least_by` meets its contract. The loop's invariant: the first k places hold the least of those positions, and the others 0.
-use Rattle.std.proofs.Common.{◌-◌, length}
+use Rattle.std.proofs.Common.{length}
 use Rattle.messages.specs.EdgeMessage.{least_at}
 use Rattle.messages.proofs.OverLaws.{Overwritten}
 use Rattle.messages.proofs.EdgeLaws.{zeros}

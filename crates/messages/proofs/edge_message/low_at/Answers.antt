@@ -1,5 +1,5 @@
 -- `low_at` meets its contract: the end says whether a row or a column is gone through.
-use Rattle.std.proofs.Common.{◌+◌, ◌*◌, ◌<◌, ◌≤◌, Bool, cond, List, length, ℤ, sym, refl, ap, ◌∙◌, subst, arith}
+use Rattle.std.proofs.Common.{◌+◌, ◌*◌, ◌<◌, ◌≤◌, Bool, cond, List, length, ℤ, sym, refl, ap, ◌∙◌, subst}
 use Rattle.integers.specs.Least.{least_from}
 use Rattle.integers.proofs.Bits.{answer}
 use Rattle.messages.specs.EdgeMessage.{line_at, left_of, unbounded}

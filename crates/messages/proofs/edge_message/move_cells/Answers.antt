@@ -1,5 +1,5 @@
 -- `move_cells` meets its contract. The loop's invariant: `a` is where the row k begins, the cells before it have received their amounts, and the others are as they were.
-use Rattle.std.proofs.Common.{◌≡◌, ℕ, ◌+◌, ◌-◌, ◌*◌, ◌<◌, ◌≤◌, List, length, get_or, take, drop, ℤ, pos, ◌+ℤ◌, sym, refl, ap, ◌∙◌, ap₂, zero-mul, arith}
+use Rattle.std.proofs.Common.{◌≡◌, ℕ, ◌+◌, ◌-◌, ◌*◌, ◌<◌, ◌≤◌, List, length, get_or, take, drop, ℤ, pos, refl, ap, ◌∙◌, ap₂, zero-mul, arith}
 use borrow.Rule.Slice.PartMut.{put_mid}
 use Rattle.integers.specs.Rows.{part}
 use Rattle.integers.proofs.Rows.{within_part}

@@ -1,5 +1,5 @@
 -- `move_cells` meets its contract. The loop's invariant: `a` is where the row k begins, the cells before it have received their amounts, and the others are as they were.
-use Rattle.std.proofs.Common.{◌≡◌, ◌-◌, ◌*◌, ◌≤◌, get_or, pos}
+use Rattle.std.proofs.Common.{◌*◌, get_or, pos}
 use Rattle.messages.specs.EdgeMessage.{position_in}
 use Rattle.messages.proofs.OverLaws.{Raised}
 use Rattle.messages.proofs.edge_message.move_cells.Given as goal

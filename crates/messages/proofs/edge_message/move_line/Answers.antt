@@ -1,5 +1,5 @@
 -- `move_line` meets its contract. The loop's invariant: the first j cells have received their amounts, and the others are as they were.
-use Rattle.std.proofs.Common.{ℕ, cond, ◌^◌, ◌≤◌, nat_abs, get_or, set, ℤ, pos, ◌+ℤ◌, ap, ◌∙◌, ap₂, arith, to_z-of_z, w64, SFits, to_z, of_z, rules}
+use Rattle.std.proofs.Common.{ℕ, cond, ◌^◌, ◌≤◌, nat_abs, get_or, set, ℤ, pos, ap, arith}
 use Rattle.rules.specs.Calls.{cost_limit}
 use Rattle.messages.proofs.RowLaws.{sum_fits, sum_is}
 use Rattle.messages.proofs.OverLaws.{written_none, written_next, raised_more, raised_all}

@@ -1,5 +1,5 @@
 -- `negated` meets its contract. The loop's invariant: the first k places hold the amounts turned round, and the others 0.
-use Rattle.std.proofs.Common.{◌-◌, get_or, pos, neg_ℤ}
+use Rattle.std.proofs.Common.{get_or, pos, neg_ℤ}
 use Rattle.messages.proofs.OverLaws.{Overwritten}
 use Rattle.messages.proofs.EdgeLaws.{zeros}
 use Rattle.messages.proofs.edge_message.negated.Given as goal

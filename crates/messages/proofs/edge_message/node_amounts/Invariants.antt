@@ -1,5 +1,5 @@
 -- `node_amounts` meets its contract. The loop's invariant: the first k places hold what those positions give, and the others 0.
-use Rattle.std.proofs.Common.{◌-◌, length, get_or, pos, ◌-ℤ◌}
+use Rattle.std.proofs.Common.{length, get_or, pos, ◌-ℤ◌}
 use Rattle.integers.specs.Least.{least_of}
 use Rattle.integers.specs.Share.{share}
 use Rattle.messages.proofs.OverLaws.{Overwritten}

@@ -2,7 +2,7 @@
 use Rattle.std.proofs.Common.{◌+◌, ◌*◌, pos, ◌∙◌, arith}
 use Rattle.integers.proofs.Bits.{same}
 use Rattle.instance.specs.Bytes.{price_at}
-use Rattle.integers.proofs.Filling.{fill_none, fill_more, fill_all}
+use Rattle.integers.proofs.Filling.{fill_none, fill_more}
 use Rattle.messages.proofs.filling.fill_prices.Goals as goal
 
 pub loop-i-init : goal.loop-i-init

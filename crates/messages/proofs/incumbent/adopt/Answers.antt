@@ -6,7 +6,7 @@ use Rattle.messages.proofs.incumbent.adopt.Goals as goal
 
 pub returns-then-replaces : goal.returns-then-replaces
 returns-then-replaces c =
-    c.copy.ensures
+    c.copy_from_slice.ensures.after
     ∙ adopted_new (instance_of c.args.sheet.now) c.args.x.now c.args.incumbent.now (sym c.replaces.ensures ∙ c.if-replaces.true)
 
 pub returns-else-replaces : goal.returns-else-replaces

@@ -1,19 +1,19 @@
 -- `round_and_adopt` meets its contract: what the rounding's answer says, and what is adopted, by the laws of the record.
-use Rattle.std.proofs.Common.{◌≤◌, length, sym, ◌∙◌, arith, length-take-le}
+use Rattle.std.proofs.Common.{◌≡◌, ◌≤◌, Some, length, sym, arith, length-take-le}
 use Rattle.instance.specs.Instance.{Instance}
 use Rattle.instance.specs.Sheet.{instance_of}
 use Rattle.rules.specs.Costs.{Costs}
 use Rattle.rules.specs.Rounding.{round}
-use Rattle.messages.specs.Rounded.{costs_by}
+use Rattle.messages.specs.Rounded.{costs_by, rounded_by}
 use Rattle.messages.proofs.SheetLaws.{nodes_few_lem}
 use Rattle.messages.proofs.RoundRecordLaws.{places_long, stuck_left, found_labelling, found_left}
 use Rattle.messages.proofs.round_record.round_and_adopt.Goals as goal
-use Rattle.messages.proofs.round_record.round_and_adopt.Goals.{After-round_all-rounding, Start}
+use Rattle.messages.proofs.round_record.round_and_adopt.Goals.{In-Some, Start}
 
--- where the rounding was made: n is no more than the places of the answer
-module _ (p : After-round_all-rounding) where
+-- where a rounding was made
+module _ (p : In-Some) where
   abbrev start : Start
-  start = (goal.at.After-round_all-rounding p).Start
+  start = (goal.at.In-Some p).Start
 
   abbrev I : Instance
   I = instance_of start.args.sheet.now
@@ -21,28 +21,35 @@ module _ (p : After-round_all-rounding) where
   abbrev costs : Costs
   costs = costs_by start.args.nodes.now start.args.edges.now
 
-  room : start.args.view.nodes ≤ length p.round_all-rounding.result.positions
-  room = omega (arith, nodes_few_lem start.requires.round_asked.seen.viewed, places_long (round I costs) p.round_all-rounding.result p.round_all-rounding.ensures)
+  made : Some p.in-Some.x ≡ rounded_by (round I costs)
+  made = p.in-Some.ensures
 
-pub returns-then-rounding : goal.returns-then-rounding
-returns-then-rounding c =
-    let p = (goal.at.returns-then-rounding c).After-round_all-rounding in stuck_left (I p) (round (I p) (costs p)) (start p).args.incumbent.now c.round_all-rounding.result c.round_all-rounding.ensures c.if-rounding.true
+  abbrev same : start.args.view.nodes ≡ I.node_count
+  same = start.requires.round_asked.seen.viewed.nodes
+
+  abbrev few : start.args.view.nodes ≤ 64
+  few = nodes_few_lem start.requires.round_asked.seen.viewed
+
+  room : start.args.view.nodes ≤ length p.in-Some.x
+  room = omega (arith, few, places_long I costs start.args.view.nodes same few p.in-Some.x made)
+
+pub returns-in_default : goal.returns-in_default
+returns-in_default c =
+    let a = c.args in
+    let I = instance_of a.sheet.now in stuck_left I (round I (costs_by a.nodes.now a.edges.now)) a.incumbent.now c.in_default.ensures
 
 pub slice_bounds-x-end : goal.slice_bounds-x-end
-slice_bounds-x-end c = room (goal.at.slice_bounds-x-end c).After-round_all-rounding
+slice_bounds-x-end c = room (goal.at.slice_bounds-x-end c).In-Some
 
 pub slice_bounds-adopt-end : goal.slice_bounds-adopt-end
 slice_bounds-adopt-end c =
-    let p = (goal.at.slice_bounds-adopt-end c).After-round_all-rounding in sym (length-take-le (start p).args.view.nodes c.round_all-rounding.result.positions (room p))
+    let p = (goal.at.slice_bounds-adopt-end c).In-Some in sym (length-take-le (start p).args.view.nodes c.in-Some.x (room p))
 
-pub adopt-requires : goal.adopt-requires
-adopt-requires c =
-    let p = (goal.at.adopt-requires c).After-round_all-rounding in let q = start p in
-    let v = q.requires.round_asked.seen.viewed in
-    record { seen = q.requires.round_asked.seen; labelling = found_labelling (I p) (costs p) q.args.view.nodes v.nodes (nodes_few_lem v) c.round_all-rounding.result c.round_all-rounding.ensures c.if-rounding.false; incumbent_len = (q.requires.incumbent_fits.size ∙ sym v.nodes, q.requires.incumbent_fits.ok) }
+pub adopt-requires-clause-labelling : goal.adopt-requires-clause-labelling
+adopt-requires-clause-labelling c =
+    let p = (goal.at.adopt-requires-clause-labelling c).In-Some in found_labelling (I p) (costs p) (start p).args.view.nodes (same p) (few p) c.in-Some.x (made p)
 
 pub returns : goal.returns
 returns c =
-    let p = (goal.at.returns c).After-round_all-rounding in let q = start p in
-    let v = q.requires.round_asked.seen.viewed in
-    found_left (I p) (costs p) q.args.view.nodes v.nodes (nodes_few_lem v) c.round_all-rounding.result c.round_all-rounding.ensures c.if-rounding.false q.args.incumbent.now _ c.adopt.ensures
+    let p = (goal.at.returns c).In-Some in
+    found_left (I p) (costs p) (start p).args.view.nodes (same p) (few p) c.in-Some.x (made p) (start p).args.incumbent.now _ c.adopt.ensures

@@ -1,5 +1,5 @@
 -- `choose` meets its contract: after k positions the best is that of the first k.
-use Rattle.std.proofs.Common.{◌≡◌, ℕ, ◌+◌, ◌<◌, false, get_or, pos, ap, ◌∙◌, ap₂, arith}
+use Rattle.std.proofs.Common.{◌≡◌, ℕ, ◌+◌, ◌<◌, false, Option, get_or, pos, ap, ◌∙◌, ap₂, arith}
 use Rattle.instance.specs.Instance.{Instance, node_cells}
 use Rattle.instance.specs.Sheet.{instance_of}
 use Rattle.instance.proofs.LaidOut.{positions_few_lem}
@@ -17,7 +17,7 @@ inside p = omega (arith, p.loop-k-test.true, p.requires.2)
 
 pub loop-k-init : goal.loop-k-init
 loop-k-init c =
-    (omega arith, chosen_none (I (goal.at.loop-k-init c).Start) c.args.at c.args.keys.now c.args.untaken.now)
+    chosen_none (I (goal.at.loop-k-init c).Start) c.args.at c.args.keys.now c.args.untaken.now
 
 pub overflow_add-at : goal.overflow_add-at
 overflow_add-at c = omega (arith, inside c, positions_few_lem (proper c.args.sheet.now c.requires.0.readable))
@@ -31,18 +31,16 @@ bounds-untaken-label c = c.label_at-label.ensures.1
 pub better_of-best-requires : goal.better_of-best-requires
 better_of-best-requires c =
     let a = c.args in
-    (omega (arith, c.loop-k.invariant.1, chosen_few (I (goal.at.better_of-best-requires c).Start) a.at a.keys.now a.untaken.now c.loop-k.k (omega (arith, c.requires.1, c.loop-k.invariant.0))), omega (arith, c.requires.1, c.loop-k-test.true))
+    (rw c.loop-k.invariant (chosen_few (I (goal.at.better_of-best-requires c).Start) a.at a.keys.now a.untaken.now c.loop-k.k (omega arith)), omega arith)
 
 pub loop-k-preserved : goal.loop-k-preserved
 loop-k-preserved c =
-    let a = c.args in (
-      omega arith,
-      c.better_of-best.ensures
-          ∙ ap₂ (λ (l b : ℕ). better (get_or a.untaken.now l false) (λ (i : ℕ). get_or a.keys.now i (pos 0)) b c.loop-k.k) c.label_at-label.ensures.0 c.loop-k.invariant.1
-          ∙ chosen_more (I (goal.at.loop-k-preserved c).Start) a.at a.keys.now a.untaken.now c.loop-k.k (omega (arith, c.requires.1, c.loop-k-test.true)),
-    )
+    let a = c.args in
+    c.better_of-best.ensures
+    ∙ ap₂ (λ (l : ℕ) (b : Option ℕ). better (get_or a.untaken.now l false) (λ (i : ℕ). get_or a.keys.now i (pos 0)) b c.loop-k.k) c.label_at-label.ensures.0 c.loop-k.invariant
+    ∙ chosen_more (I (goal.at.loop-k-preserved c).Start) a.at a.keys.now a.untaken.now c.loop-k.k
 
 pub returns : goal.returns
 returns c =
     let e : c.loop-k.k ≡ c.args.degree = omega arith in
-    c.loop-k.invariant.1 ∙ ap (chosen_from (I (goal.at.returns c).Start) c.args.at c.args.keys.now c.args.untaken.now) e
+    c.loop-k.invariant ∙ ap (chosen_from (I (goal.at.returns c).Start) c.args.at c.args.keys.now c.args.untaken.now) e

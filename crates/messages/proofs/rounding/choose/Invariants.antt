@@ -1,11 +1,8 @@
 -- `choose` meets its contract: after k positions the best is that of the first k.
-use Rattle.std.proofs.Common.{◌≡◌, ◌-◌, ◌≤◌}
+use Rattle.std.proofs.Common.{◌≡◌}
 use Rattle.instance.specs.Sheet.{instance_of}
 use Rattle.messages.specs.Rounded.{chosen_from}
 use Rattle.messages.proofs.rounding.choose.Given as goal
 
 abbrev pub invariant-loop-k : goal.invariant-loop-k
-invariant-loop-k l = (l.k ≤ l.degree) × (l.best ≡ chosen_from (instance_of l.sheet) l.at l.keys l.untaken l.k)
-
-abbrev pub decreases-loop-k : goal.decreases-loop-k
-decreases-loop-k l = l.degree - l.k
+invariant-loop-k l = l.best ≡ chosen_from (instance_of l.sheet) l.at l.keys l.untaken l.k

@@ -1,5 +1,5 @@
 -- `round_all` meets its contract, by the laws of its turns.
-use Rattle.std.proofs.Common.{◌≡◌, ℕ, ◌+◌, ◌<◌, ◌≤◌, get_or, take, ap, ◌∙◌, arith}
+use Rattle.std.proofs.Common.{◌≡◌, ℕ, ◌+◌, ◌<◌, ◌≤◌, Some, get_or, take, sym, ap, ◌∙◌, arith}
 use Rattle.instance.specs.Instance.{Instance, first, node_cells}
 use Rattle.instance.specs.Sheet.{instance_of}
 use Rattle.instance.specs.Readable.{Proper}
@@ -9,7 +9,7 @@ use Rattle.messages.specs.Rounded.{costs_by, or_none}
 use Rattle.messages.proofs.SheetLaws.{proper, nodes_few_lem, start_is}
 use Rattle.messages.proofs.RoundTurns.{round_start, round_done, choice_read, round_stop, position_inside, round_turn}
 use Rattle.messages.proofs.rounding.round_all.Goals as goal
-use Rattle.messages.proofs.rounding.round_all.Goals.{After-choose-k, In-loop-u, Start}
+use Rattle.messages.proofs.rounding.round_all.Goals.{After-choose, In-loop-u, In_ok-k, Start}
 
 -- in a turn
 module _ (t : In-loop-u) where
@@ -37,29 +37,41 @@ module _ (t : In-loop-u) where
   row : first I u + I.degree u ≤ node_cells I
   row = row_inside I node
 
--- where the choice is made: the choice of the rules, as a number
-module _ (p : After-choose-k) where
+-- where the choice is made: the choice of the rules
+module _ (p : After-choose) where
   abbrev turn : In-loop-u
-  turn = (goal.at.After-choose-k p).In-loop-u
+  turn = (goal.at.After-choose p).In-loop-u
 
-  abbrev k : ℕ
-  k = p.choose-k.result
+  abbrev q : Start
+  q = start turn
 
-  abbrev at : ℕ
-  at = get_or (start turn).args.starts.now (u turn) 0
-
-  picked : k ≡ or_none (choice (I turn) (costs_by (start turn).args.nodes.now (start turn).args.edges.now) (take (u turn) turn.loop-u.x) (u turn))
+  picked : p.choose.result ≡ or_none (choice (I turn) (costs_by q.args.nodes.now q.args.edges.now) (take (u turn) turn.loop-u.x) (u turn))
   picked =
-      let q = start turn in
-      p.choose-k.ensures
+      p.choose.ensures
       ∙ choice_read q.requires.seen.viewed q.args.nodes.now q.args.edges.now turn.loop-u.invariant turn.loop-u-test.true (begins turn) p.keys_of-keys.ensures p.degree_of.ensures.0
 
-  module _ (q : k ≡ 16 → ⊥) where
-    position : k < (I turn).degree (u turn)
-    position = position_inside (start turn).requires.seen.viewed (start turn).args.nodes.now (start turn).args.edges.now turn.loop-u.invariant turn.loop-u-test.true picked q
+-- a choice
+module _ (o : In_ok-k) where
+  abbrev p : After-choose
+  p = (goal.at.In_ok-k o).After-choose
 
-    inside : at + k < node_cells (I turn)
-    inside = omega (arith, position, begins turn, row turn)
+  abbrev t : In-loop-u
+  t = turn p
+
+  abbrev r : Start
+  r = q p
+
+  abbrev k : ℕ
+  k = o.in_ok-k.k
+
+  made : Some k ≡ or_none (choice (I t) (costs_by r.args.nodes.now r.args.edges.now) (take (u t) t.loop-u.x) (u t))
+  made = sym o.in_ok-k.was ∙ picked p
+
+  position : k < (I t).degree (u t)
+  position = position_inside r.requires.seen.viewed r.args.nodes.now r.args.edges.now t.loop-u.invariant t.loop-u-test.true made
+
+  inside : get_or r.args.starts.now (u t) 0 + k < node_cells (I t)
+  inside = omega (arith, position, begins t, row t)
 
 pub loop-u-init : goal.loop-u-init
 loop-u-init c = round_start c.args.sheet.now c.args.view.nodes c.args.nodes.now c.args.edges.now
@@ -78,41 +90,36 @@ pub degree_of-requires : goal.degree_of-requires
 degree_of-requires c =
     let t = (goal.at.degree_of-requires c).In-loop-u in ((start t).requires.seen.viewed.readable, node t)
 
-pub choose-k-requires : goal.choose-k-requires
-choose-k-requires c =
-    let t = (goal.at.choose-k-requires c).In-loop-u in ((start t).requires.seen.viewed, c.degree_of.ensures.1, omega (arith, c.degree_of.ensures.0, begins t, row t))
+pub choose-requires : goal.choose-requires
+choose-requires c =
+    let t = (goal.at.choose-requires c).In-loop-u in ((start t).requires.seen.viewed, c.degree_of.ensures.1, omega (arith, c.degree_of.ensures.0, begins t, row t))
 
-pub returns-then-k-eq16 : goal.returns-then-k-eq16
-returns-then-k-eq16 c =
-    let p = (goal.at.returns-then-k-eq16 c).After-choose-k in let q = start (turn p) in
-    c.stuck.ensures ∙ round_stop q.requires.seen.viewed q.args.nodes.now q.args.edges.now (turn p).loop-u.invariant (turn p).loop-u-test.true (picked p) c.if-k-eq16.true
+pub returns-in_err-k : goal.returns-in_err-k
+returns-in_err-k c =
+    let p = (goal.at.returns-in_err-k c).After-choose in
+    c.from_residual.ensures
+    ∙ round_stop (q p).requires.seen.viewed (q p).args.nodes.now (q p).args.edges.now (turn p).loop-u.invariant (turn p).loop-u-test.true (sym c.in_err-k.was ∙ picked p)
 
 pub overflow_cast-x : goal.overflow_cast-x
 overflow_cast-x c =
-    let p = (goal.at.overflow_cast-x c).After-choose-k in omega (arith, position p c.if-k-eq16.false, (good (turn p)).few (u (turn p)) (node (turn p)))
+    let o = (goal.at.overflow_cast-x c).In_ok-k in omega (arith, position o, (good (t o)).few (u (t o)) (node (t o)))
 
 pub bounds-x-u : goal.bounds-x-u
 bounds-x-u c =
-    let p = (goal.at.bounds-x-u c).After-choose-k in omega (arith, few (turn p), (turn p).loop-u.invariant.size)
+    let o = (goal.at.bounds-x-u c).In_ok-k in omega (arith, few (t o), (t o).loop-u.invariant.size)
 
 pub overflow_add-at : goal.overflow_add-at
 overflow_add-at c =
-    let p = (goal.at.overflow_add-at c).After-choose-k in omega (arith, inside p c.if-k-eq16.false, positions_few_lem (good (turn p)))
+    let o = (goal.at.overflow_add-at c).In_ok-k in omega (arith, inside o, positions_few_lem (good (t o)))
 
 pub label_at-label-requires : goal.label_at-label-requires
 label_at-label-requires c =
-    let p = (goal.at.label_at-label-requires c).After-choose-k in ((start (turn p)).requires.seen.viewed, inside p c.if-k-eq16.false)
-
-pub overflow_add-u : goal.overflow_add-u
-overflow_add-u c = omega (arith, few (turn (goal.at.overflow_add-u c).After-choose-k))
-
-pub loop-u-smaller : goal.loop-u-smaller
-loop-u-smaller c = omega (arith, (turn (goal.at.loop-u-smaller c).After-choose-k).loop-u-test.true)
+    let o = (goal.at.label_at-label-requires c).In_ok-k in ((r o).requires.seen.viewed, inside o)
 
 pub loop-u-preserved : goal.loop-u-preserved
 loop-u-preserved c =
-    let p = (goal.at.loop-u-preserved c).After-choose-k in let q = start (turn p) in
-    round_turn q.requires.seen.viewed q.args.nodes.now q.args.edges.now (turn p).loop-u.invariant (turn p).loop-u-test.true (picked p) c.if-k-eq16.false (c.label_at-label.ensures.0 ∙ ap (λ (a : ℕ). (I (turn p)).label (a + k p)) (begins (turn p))) c.exclusive.ensures
+    let o = (goal.at.loop-u-preserved c).In_ok-k in
+    round_turn (r o).requires.seen.viewed (r o).args.nodes.now (r o).args.edges.now (t o).loop-u.invariant (t o).loop-u-test.true (made o) (c.label_at-label.ensures.0 ∙ ap (λ (a : ℕ). (I (t o)).label (a + k o)) (begins (t o))) c.exclusive.ensures
 
 pub returns : goal.returns
 returns c =

@@ -1,5 +1,5 @@
 -- `excess` meets its contract: the one sum wraps below the range, the other above it.
-use Rattle.std.proofs.Common.{ℕ, ap, ◌∙◌, to_z-of_z, w64, of_z}
+use Rattle.std.proofs.Common.{ap, ◌∙◌, to_z-of_z, w64, of_z}
 use Rattle.messages.proofs.ExcessLaws.{apart_limit}
 use Rattle.messages.proofs.rows.excess.Goals as goal
 

@@ -1,5 +1,5 @@
 -- `least_but` meets its contract: the least of what stands before the place is the start value for what stands after it.
-use Rattle.std.proofs.Common.{ℕ, suc, ◌+◌, take, drop, ℤ, sym, ap, ◌∙◌, ap₂, add-one, arith, length-take-le, to_z-of_z}
+use Rattle.std.proofs.Common.{ℕ, suc, ◌+◌, take, drop, ℤ, sym, ap, ◌∙◌, ap₂, add-one, arith, to_z-of_z}
 use Rattle.integers.specs.Least.{least_from}
 use Rattle.integers.proofs.Rows.{tail_part}
 use Rattle.integers.proofs.Least.{least_append}

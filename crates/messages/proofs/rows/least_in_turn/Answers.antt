@@ -1,5 +1,5 @@
 -- `least_in_turn` meets its contract. The loop's invariant: the least of `best` and of what is left is the least of all.
-use Rattle.std.proofs.Common.{◌+◌, drop, get_or, ℤ, pos, ap, ◌∙◌, ap₂, arith, to_z-of_z, w64, to_z, rules}
+use Rattle.std.proofs.Common.{◌+◌, drop, get_or, ℤ, pos, ap, ◌∙◌, arith, to_z-of_z, w64, to_z, rules}
 use Rattle.std.specs.Int.{int_min}
 use Rattle.integers.specs.Least.{least_from}
 use Rattle.integers.proofs.Least.{least_step, least_done}
