@@ -1,18 +1,19 @@
 -- Numbers in decimal: a digit or the digits of n / 10 and the last, how many there are, and that they stand for n.
 -- Assumes nothing.
-use mathlib.Core.Path.{◌≡◌, refl, ap, ◌∙◌}
+use mathlib.Core.Path.{◌≡◌, refl, sym, ap, ◌∙◌}
 use mathlib.Core.List.{List, [], ◌∷◌, ◌++◌}
 use Prim.Native.Nat.{ℕ, zero, suc, ◌+◌, ◌-◌, ◌*◌, ◌/◌, ◌%◌, ◌^◌, ◌≤◌, ◌<◌}
-use native.Mathlib.Nat.{pow-suc}
 use native.Mathlib.Omega.{arith}
-use borrow.Author.Tests.{lt-ltb, le-ltb, ltb-true, ltb-false}
+use borrow.Author.Tests.{lt-ltb, le-ltb, ltb-false}
 use lib.Dec.{ltb}
 use lib.ListN.{length, get_or, length-append, get_or-append}
-use lib.IntN.{ℤ, pos, negsuc, nat_abs}
-use lib.Signed.{◌≤ℤ◌, ◌<ℤ◌}
+use lib.IntN.{ℤ, pos, negsuc}
+use lib.Signed.{mag}
 use mir.Syntax.{w64}
-use mir.Val.{SFits}
-use Rattle.integers.proofs.Parts.{linear, abs, range}
+use mir.Val.{SFits, to_z, of_z}
+use mir.Facts.{to_z-of_z}
+use Rattle.std.specs.Fmt.{decimal as std_decimal, signed_decimal}
+use Rattle.std.proofs.lemmas.Fmt.{decimal_by_steps}
 use Rattle.integers.proofs.Places.{by-test, by_cond, if-true, if-false}
 use Rattle.console.specs.Decimal.{digits_in, decimal, signed, value_from}
 
@@ -35,41 +36,21 @@ decimal_more n h =
     if-false _ _ (le-ltb n 10 h)
     ∙ ap (λ (x : List ℕ). x ++ ((48 + n % 10) ∷ [])) (digits_room n (suc (n / 10)) (n / 10) (omega arith) (omega arith))
 
-pub digit_length : (n : ℕ) → n < 10 → length (decimal n) ≡ 1
-digit_length n h = ap length (decimal_digit n h)
+-- ---- what the library prints
 
-pub more_length : (n : ℕ) → 10 ≤ n → length (decimal n) ≡ length (decimal (n / 10)) + 1
-more_length n h = ap length (decimal_more n h) ∙ length-append (decimal (n / 10)) ((48 + n % 10) ∷ [])
+pub decimal_is : (n : ℕ) → n < 2 ^ 64 → std_decimal n ≡ decimal n
+decimal_is n h =
+    decimal_by_steps (λ (n : ℕ) (l : List ℕ). l ≡ decimal n) (λ n g. sym (decimal_digit n g))
+    (λ n l g e. ap (λ (x : List ℕ). x ++ ((48 + n % 10) ∷ [])) e ∙ sym (decimal_more n g)) n h
 
-pub length-decimal : (k n : ℕ) → n < 10 ^ suc k → length (decimal n) ≤ suc k
-length-decimal zero n h = omega (arith, digit_length n (omega arith))
-length-decimal (suc k) n h =
-    by-test (ltb n 10) (λ t. let l = ltb-true n 10 t in omega (arith, digit_length n l))
-    (λ t. let l = ltb-false n 10 t in
-    let s : n / 10 < 10 ^ suc k = omega (arith, pow-suc 10 (suc k)) in
-    omega (arith, more_length n l, length-decimal k (n / 10) s))
-
--- of an unsigned number of 64 bits, and of a signed one's distance from 0
-pub length_word : (n : ℕ) → n < 2 ^ 64 → length (decimal n) ≤ 20
-length_word n h = length-decimal 19 n (omega arith)
-
-pub length_half : (n : ℕ) → n ≤ 2 ^ 63 → length (decimal n) ≤ 19
-length_half n h = length-decimal 18 n (omega arith)
-
-pub length_magnitude : {z : ℤ} → SFits w64 z → length (decimal (nat_abs z)) ≤ 19
-length_magnitude {z} h = length_half (nat_abs z) (omega (linear, range h, abs z))
-
--- ---- the sign
-
-pub signed_below : (z : ℤ) → z <ℤ pos 0 → signed z ≡ 45 ∷ decimal (nat_abs z)
+signed_of : (z : ℤ) → mag z < 2 ^ 63 → signed_decimal z ≡ signed z
 unfolding signed
-signed_below (pos n) h = absurd (omega linear)
-signed_below (negsuc n) h = refl
+signed_of (pos n) h = decimal_is n (omega arith)
+signed_of (negsuc n) h = ap (λ (l : List ℕ). 45 ∷ l) (decimal_is (suc n) (omega arith))
 
-pub signed_above : (z : ℤ) → pos 0 ≤ℤ z → signed z ≡ decimal (nat_abs z)
-unfolding signed
-signed_above (pos n) h = refl
-signed_above (negsuc n) h = absurd (omega linear)
+-- of a signed number as a call is handed it
+pub signed_is : {z : ℤ} → SFits w64 z → signed_decimal (to_z w64 (of_z w64 z)) ≡ signed z
+signed_is {z} h = ap signed_decimal (to_z-of_z h) ∙ signed_of z h.sfits
 
 -- ---- digits stand for the number
 

@@ -1,8 +1,7 @@
 -- Laws of what is printed.
 pub mod DecimalLaws
-pub mod PutLaws
+pub mod WritingLaws
 pub mod Outputs
-pub mod ReportLaws
 pub mod ProgramLaws
 pub mod Printed
 pub mod TextLineLaws

@@ -5,5 +5,5 @@ pub mod Lines
 pub mod Output
 pub mod Program
 pub mod TextLines
-pub mod Unkept
+pub mod Writing
 pub mod Sample

@@ -1,7 +1,6 @@
 // The program as a function: from the bytes of a sheet and of a list of records to the text that is printed.
 #![tactic(auto)]
 
-mod lines;
 mod printing;
 mod program;
 mod room;

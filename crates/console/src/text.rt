@@ -1,52 +1,38 @@
-// Text put into a lent buffer at a place. Each function answers the place after its text.
-ghost use Rattle.std.specs.Prelude.{◌≡◌, ◌+◌, ◌≤◌, length, nat_abs};
-ghost use Rattle.console.specs.Decimal.{decimal, signed};
-ghost use Rattle.console.specs.Output.{Put};
+// Text written one piece after another.
 
-pub(crate) fn put(out: &mut [u8], at: usize, bytes: &[u8]) -> usize
-    requires { at + length bytes.now ≤ length out.old }
-    ensures { Put at bytes.now out.old out.new result }
-{
-    let mut done = 0;
-    while done < bytes.len() {
-        out[at + done] = bytes[done];
-        done += 1;
-    }
-    at + done
+// A buffer, of which the bytes ahead of `len` are text.
+#[derive(Drop)]
+pub(crate) struct Text<'a> {
+    pub(crate) out: &'a mut [u8],
+    pub(crate) len: usize,
 }
 
-// The digits of n / 10, and then the last digit.
-pub(crate) fn put_decimal(out: &mut [u8], at: usize, n: u64) -> usize
-    requires { at + length (decimal n) ≤ length out.old }
-    ensures { Put at (decimal n) out.old out.new result }
-{
-    if n < 10 {
-        out[at] = b'0' + n as u8;
-        return at + 1;
-    }
-    let last = put_decimal(out, at, n / 10);
-    out[last] = b'0' + (n % 10) as u8;
-    last + 1
-}
+impl Text<'_> {
+    ghost use Rattle.std.specs.Prelude.{length, ◌+◌, ◌≤◌};
+    ghost use Rattle.console.specs.Writing.{Wrote, Room};
+    ghost use Rattle.console.specs.Lines.{line};
 
-// The distance from 0. The least i64 has one, too.
-fn magnitude(z: i64) -> u64
-    ensures { result ≡ nat_abs z }
-{
-    if z < 0 {
-        (-(z + 1)) as u64 + 1
-    } else {
-        z as u64
+    pub(crate) fn put(&mut self, piece: &[u8])
+        requires { Room self.old (length piece.now) }
+        ensures { Wrote self.old piece.now self.new }
+    {
+        let len = self.len;
+        let end = len + piece.len();
+        self.out[len..end].copy_from_slice(piece);
+        self.len = end;
     }
-}
 
-pub(crate) fn put_signed(out: &mut [u8], at: usize, z: i64) -> usize
-    requires { at + 20 ≤ length out.old }
-    ensures { Put at (signed z) out.old out.new result × (result ≤ at + 20) }
-{
-    if z < 0 {
-        out[at] = b'-';
-        return put_decimal(out, at + 1, magnitude(z));
+    // A line: a name, a number and a newline.
+    // Kept: no `write!`, whose contract says what stands there where it answers Ok, and not that it answers Ok.
+    pub(crate) fn line<I: itoa::Integer>(&mut self, name: &[u8], value: I)
+        requires name_bound { length name.now ≤ 8 }
+        requires value_bound { I.MAX_STR_LEN ≤ 20 }
+        requires room { Room self.old 32 }
+        ensures wrote { Wrote self.old (line name.now (I.text value)) self.new }
+        ensures short { self.new.len ≤ self.old.len + 32 }
+    {
+        self.put(name);
+        self.put(itoa::Buffer::new().format(value).as_bytes());
+        self.put(b"\n");
     }
-    put_decimal(out, at, magnitude(z))
 }

@@ -3,180 +3,122 @@
 
 use messages::{Answer, Report};
 use std::fs::{self, Files};
-use std::io::{self, Print, Write};
+use std::io::{self, Print};
+
+// The runs: a heading, the sheet's file and the records' file.
+const RUNS: [(&str, &str, &str); 36] = [
+    // runs to the end
+    ("the sample", "sample.sheet", "sample.records"),
+    ("none kept", "0012.sheet", "0012.records"),
+    ("below 0", "0053.sheet", "0053.records"),
+    ("the trailer alone", "0073.sheet", "0073.records"),
+    ("8,192 records", "0026.sheet", "0026.records"),
+    // runs that a record stops
+    ("stopped, none kept", "0010.sheet", "0010.records"),
+    ("stopped, one kept", "0068.sheet", "0068.records"),
+    ("stopped, no nodes", "0016.sheet", "0016.records"),
+    ("stopped by a cost", "0047.sheet", "0047.records"),
+    // refused lists and sheets, and files that are missing
+    ("a part of a record", "0018.sheet", "0018.records"),
+    ("no file, no records", "missing", "missing"),
+    ("no file", "missing", "sample.records"),
+    ("a label", "0021.sheet", "0021.records"),
+    // at and past the limits of a share, a price and a distance
+    ("shares of 64 and 65", "sample.sheet", "shares.records"),
+    ("a price of 1,000,001", "price.sheet", "sample.records"),
+    ("a distance of 51", "distance.sheet", "sample.records"),
+    // sheets with the label 255
+    (
+        "a run of another implementation with nine 255s",
+        "0039.sheet",
+        "0039.records",
+    ),
+    ("two nodes take 255", "vanished.sheet", "rounding.records"),
+    (
+        "stopped by a record at a 255",
+        "vanished.sheet",
+        "vanished.records",
+    ),
+    (
+        "255 alone, and no other label",
+        "vanished-alone.sheet",
+        "rounding.records",
+    ),
+    (
+        "a 255 that is not last",
+        "vanished-first.sheet",
+        "rounding.records",
+    ),
+    // edges whose ends have one label
+    (
+        "the sample and a sixth record",
+        "sample.sheet",
+        "sixth.records",
+    ),
+    (
+        "a run of another implementation with unusable cells",
+        "unusable-run.sheet",
+        "unusable-run.records",
+    ),
+    (
+        "an edge with no usable cell",
+        "unusable-only.sheet",
+        "rounding.records",
+    ),
+    (
+        "the same with a price of 1,000,001",
+        "unusable-price.sheet",
+        "rounding.records",
+    ),
+    (
+        "a second label at one end",
+        "unusable-one.sheet",
+        "rounding.records",
+    ),
+    (
+        "255 alone at both ends",
+        "vanished-joined.sheet",
+        "rounding.records",
+    ),
+    // shares to the nearest: the bound of the first is 5 with halves toward zero, 7 with halves away from it
+    (
+        "halves of 7 and of 5 below 0",
+        "halves.sheet",
+        "halves.records",
+    ),
+    (
+        "a run of another implementation with shares",
+        "shares-run.sheet",
+        "shares-run.records",
+    ),
+    // sheets and lists at the limits of their lengths and past them; the lists are roundings, so that one that was cut
+    // would be run
+    ("a sheet of 22,096 bytes", "zeros-22096", "missing"),
+    ("a sheet of 22,097 bytes", "zeros-22097", "missing"),
+    ("a sheet of 22,100 bytes", "zeros-22100", "missing"),
+    ("40,960 bytes of records", "sample.sheet", "roundings-40960"),
+    ("40,961 bytes of records", "sample.sheet", "roundings-40961"),
+    ("40,965 bytes of records", "sample.sheet", "roundings-40965"),
+    ("no file, 40,965 bytes", "missing", "roundings-40965"),
+];
 
 fn heading<R: Print>(rt: &R, name: &str) -> io::Result<()> {
     println!(rt; "-- {name}")
 }
 
 // The program, with its records from a file; without one where it is missing.
-fn run_files<R: Files + Print>(rt: &R, sheet_name: &str, records_name: &str) -> io::Result<()> {
-    match fs::open(rt, records_name) {
-        Ok(mut records) => terminal::run(rt, sheet_name.as_bytes(), &mut records),
-        Err(_) => terminal::run(rt, sheet_name.as_bytes(), &mut io::empty()),
+fn run_files<R: Files + Print>(rt: &R, sheet: &str, records: &str) -> io::Result<()> {
+    match fs::open(rt, records) {
+        Ok(mut records) => terminal::run(rt, sheet, &mut records),
+        Err(_) => terminal::run(rt, sheet, &mut io::empty()),
     }
 }
 
-fn show_files<R: Files + Print>(
-    rt: &R,
-    name: &str,
-    sheet_name: &str,
-    records_name: &str,
-) -> io::Result<()> {
-    heading(rt, name)?;
-    run_files(rt, sheet_name, records_name)
-}
-
-fn kept_cases<R: Files + Print>(rt: &R) -> io::Result<()> {
-    show_files(rt, "the sample", "sample.sheet", "sample.records")?;
-    show_files(rt, "none kept", "0012.sheet", "0012.records")?;
-    show_files(rt, "below 0", "0053.sheet", "0053.records")?;
-    show_files(rt, "the trailer alone", "0073.sheet", "0073.records")?;
-    show_files(rt, "8,192 records", "0026.sheet", "0026.records")
-}
-
-fn stopped_cases<R: Files + Print>(rt: &R) -> io::Result<()> {
-    show_files(rt, "stopped, none kept", "0010.sheet", "0010.records")?;
-    show_files(rt, "stopped, one kept", "0068.sheet", "0068.records")?;
-    show_files(rt, "stopped, no nodes", "0016.sheet", "0016.records")?;
-    show_files(rt, "stopped by a cost", "0047.sheet", "0047.records")
-}
-
-fn refused_cases<R: Files + Print>(rt: &R) -> io::Result<()> {
-    show_files(rt, "a part of a record", "0018.sheet", "0018.records")?;
-    show_files(rt, "no file, no records", "missing", "missing")?;
-    show_files(rt, "no file", "missing", "sample.records")?;
-    show_files(rt, "a label", "0021.sheet", "0021.records")
-}
-
-// Document 01's other cases: share 64 runs, 65 is refused; price 1,000,001; distance 51 for 50.
-fn other_cases<R: Files + Print>(rt: &R) -> io::Result<()> {
-    show_files(rt, "shares of 64 and 65", "sample.sheet", "shares.records")?;
-    show_files(rt, "a price of 1,000,001", "price.sheet", "sample.records")?;
-    show_files(rt, "a distance of 51", "distance.sheet", "sample.records")
-}
-
-// Document 02, wish 1: sheets with the label 255.
-fn vanished_cases<R: Files + Print>(rt: &R) -> io::Result<()> {
-    show_files(
-        rt,
-        "a run of another implementation with nine 255s",
-        "0039.sheet",
-        "0039.records",
-    )?;
-    show_files(
-        rt,
-        "two nodes take 255",
-        "vanished.sheet",
-        "rounding.records",
-    )?;
-    show_files(
-        rt,
-        "stopped by a record at a 255",
-        "vanished.sheet",
-        "vanished.records",
-    )?;
-    show_files(
-        rt,
-        "255 alone, and no other label",
-        "vanished-alone.sheet",
-        "rounding.records",
-    )?;
-    show_files(
-        rt,
-        "a 255 that is not last",
-        "vanished-first.sheet",
-        "rounding.records",
-    )
-}
-
-// Document 02, wish 2: edges whose ends have one label.
-fn unusable_cases<R: Files + Print>(rt: &R) -> io::Result<()> {
-    show_files(
-        rt,
-        "the sample and a sixth record",
-        "sample.sheet",
-        "sixth.records",
-    )?;
-    show_files(
-        rt,
-        "a run of another implementation with unusable cells",
-        "unusable-run.sheet",
-        "unusable-run.records",
-    )?;
-    show_files(
-        rt,
-        "an edge with no usable cell",
-        "unusable-only.sheet",
-        "rounding.records",
-    )?;
-    show_files(
-        rt,
-        "the same with a price of 1,000,001",
-        "unusable-price.sheet",
-        "rounding.records",
-    )?;
-    show_files(
-        rt,
-        "a second label at one end",
-        "unusable-one.sheet",
-        "rounding.records",
-    )?;
-    show_files(
-        rt,
-        "255 alone at both ends",
-        "vanished-joined.sheet",
-        "rounding.records",
-    )
-}
-
-// Document 02, wish 3: shares to the nearest. The bound of the first is 5 with halves toward zero, 7 with halves away from it.
-fn share_cases<R: Files + Print>(rt: &R) -> io::Result<()> {
-    show_files(
-        rt,
-        "halves of 7 and of 5 below 0",
-        "halves.sheet",
-        "halves.records",
-    )?;
-    show_files(
-        rt,
-        "a run of another implementation with shares",
-        "shares-run.sheet",
-        "shares-run.records",
-    )
-}
-
-// Sheets and lists at the limits of their lengths and past them. The lists are roundings, so that one that was cut would
-// be run.
-fn length_cases<R: Files + Print>(rt: &R) -> io::Result<()> {
-    show_files(rt, "a sheet of 22,096 bytes", "zeros-22096", "missing")?;
-    show_files(rt, "a sheet of 22,097 bytes", "zeros-22097", "missing")?;
-    show_files(rt, "a sheet of 22,100 bytes", "zeros-22100", "missing")?;
-    show_files(
-        rt,
-        "40,960 bytes of records",
-        "sample.sheet",
-        "roundings-40960",
-    )?;
-    show_files(
-        rt,
-        "40,961 bytes of records",
-        "sample.sheet",
-        "roundings-40961",
-    )?;
-    show_files(
-        rt,
-        "40,965 bytes of records",
-        "sample.sheet",
-        "roundings-40965",
-    )?;
-    show_files(rt, "no file, 40,965 bytes", "missing", "roundings-40965")
-}
-
 fn show_text<R: Print>(rt: &R, answer: Answer, report: Report) -> io::Result<()> {
-    let mut text = [0u8; 256];
-    let count = console::compose(answer, report, &mut text);
-    io::writer(rt).write_all(&text[..count])
+    terminal::write_text(
+        &mut io::writer(rt),
+        |text| console::compose(answer, report, text),
+    )
 }
 
 // Numbers that no run has, and a buffer that is too short.
@@ -190,20 +132,16 @@ fn extreme_cases<R: Print>(rt: &R) -> io::Result<()> {
     show_text(rt, ran, Report::Kept(i64::MIN, i64::MAX, -10))?;
     heading(rt, "a report refused")?;
     show_text(rt, ran, Report::Refused(14))?;
+    heading(rt, "a buffer of 255 bytes")?;
     let mut short = [0u8; 255];
     let count = console::compose(ran, Report::Bound(0), &mut short);
-    heading(rt, "a buffer of 255 bytes")?;
     println!(rt; "{count}")
 }
 
 fn main(rt: HostRuntime) -> io::Result<()> {
-    kept_cases(&rt)?;
-    stopped_cases(&rt)?;
-    refused_cases(&rt)?;
-    other_cases(&rt)?;
-    vanished_cases(&rt)?;
-    unusable_cases(&rt)?;
-    share_cases(&rt)?;
-    length_cases(&rt)?;
+    for (name, sheet, records) in RUNS {
+        heading(&rt, name)?;
+        run_files(&rt, sheet, records)?;
+    }
     extreme_cases(&rt)
 }

@@ -26,9 +26,9 @@ impl Index {
     pub fn of(bytes: &[u8], stride: usize) -> Self
         ensures { result ≡ index_of bytes.now stride }
     {
-        let mut entries = [0u16; 4160];
-        index_into(bytes, stride, &mut entries);
-        Index { entries }
+        let mut index = Index { entries: [0; 4160] };
+        index_into(bytes, stride, &mut index.entries);
+        index
     }
 
     // The things that have a key, rising.

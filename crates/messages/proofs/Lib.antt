@@ -26,6 +26,7 @@ pub mod RecordLaws
 pub mod RoundRecordLaws
 pub mod TurnLaws
 pub mod RunLaws
+pub mod Numbers
 pub mod Trace
 pub mod Whole
 pub mod GapZero

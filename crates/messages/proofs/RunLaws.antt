@@ -13,7 +13,6 @@ use Rattle.rules.proofs.Calls.{run_refusal_by}
 use Rattle.integers.proofs.Places.{if-true, if-false}
 use Rattle.rules.proofs.Run.{Done, effect_later, Numbered, effect_number}
 use Rattle.rules.proofs.Loops.{carry, carry_start, carry-done, carry-refused, carry_end, records_next}
-use Rattle.messages.specs.Records.{head_of}
 use Rattle.messages.specs.Step.{Settled, settle, settled}
 use Rattle.messages.specs.Turn.{Good}
 use Rattle.messages.proofs.TurnLaws.{good_next, stuck_once}
@@ -53,23 +52,25 @@ module _ (s : List ℕ) (limit : ℕ) (b : Buffers) (l : List ℕ) where
 
 -- the record at the head of some bytes, as the rules have it
 abbrev pub record_of : List ℕ → Record
-record_of l = let r = head_of l in record { kind = kind_of r.kind; node = r.node; index = r.index; share = r.share }
+record_of l = record { kind = kind_of (get_or l 0 0); node = get_or l 1 0; index = get_or l 2 0 + 256 * get_or l 3 0; share = get_or l 4 0 }
 
-pub record Going (s : List ℕ) (limit : ℕ) (l : List ℕ) (b₀ b : Buffers) (at finished stuck : ℕ) : Type 0 where
-  pub place : at ≡ 5 * finished
-  pub upto : at ≤ length l
+pub record Going (s : List ℕ) (limit : ℕ) (l : List ℕ) (b₀ b : Buffers) (finished stuck : ℕ) : Type 0 where
+  pub upto : 5 * finished ≤ length l
   pub whole : length l % 5 ≡ 0
   pub few : stuck ≤ finished
   pub good : Good s limit b
-  pub rest : carry finished stuck (run (instance_of s) limit b (records (drop at l))) ≡ run_list (instance_of s) limit b₀ l
+  pub rest : carry finished stuck (run (instance_of s) limit b (records (drop (5 * finished) l))) ≡ run_list (instance_of s) limit b₀ l
 
-pub going_start : (s : List ℕ) (limit : ℕ) (l : List ℕ) (b : Buffers) → Good s limit b → length l % 5 ≡ 0 → Going s limit l b b 0 0 0
+pub going_start : (s : List ℕ) (limit : ℕ) (l : List ℕ) (b : Buffers) → Good s limit b → length l % 5 ≡ 0 → Going s limit l b b 0 0
 unfolding run_list
-going_start s limit l b g e = record { place = refl; upto = omega arith; whole = e; few = omega arith; good = g; rest = sym (carry_start (run (instance_of s) limit b (records l))) }
+going_start s limit l b g e = record { upto = omega arith; whole = e; few = omega arith; good = g; rest = sym (carry_start (run (instance_of s) limit b (records l))) }
 
-module _ {s : List ℕ} {limit : ℕ} {l : List ℕ} {b₀ b : Buffers} {at finished stuck : ℕ} (g : Going s limit l b₀ b at finished stuck) where
+module _ {s : List ℕ} {limit : ℕ} {l : List ℕ} {b₀ b : Buffers} {finished stuck : ℕ} (g : Going s limit l b₀ b finished stuck) where
   abbrev I : Instance
   I = instance_of s
+
+  abbrev at : ℕ
+  at = 5 * finished
 
   proper : Proper I
   proper = (sheet.readable s g.good.readable).proper
@@ -83,7 +84,7 @@ module _ {s : List ℕ} {limit : ℕ} {l : List ℕ} {b₀ b : Buffers} {at fini
 
   module _ (h : at < length l) where
     pub going_room : at + 5 ≤ length l
-    going_room = omega (arith, g.place, g.whole)
+    going_room = omega (arith, g.whole)
 
     pub going_bytes : 5 ≤ length (drop at l)
     going_bytes = omega (arith, going_room, length-drop at l)
@@ -118,16 +119,18 @@ module _ {s : List ℕ} {limit : ℕ} {l : List ℕ} {b₀ b : Buffers} {at fini
       going_few = omega (arith, ap (λ (z : Settled). z.stuck) e, stuck_once g.good (kind_of (get_or (drop at l) 0 0)) (get_or (drop at l) 1 0) (get_or (drop at l) 2 0 + 256 * get_or (drop at l) 3 0) (get_or (drop at l) 4 0))
 
     -- a record that is done is followed by the next
-    pub going_next : {b' : Buffers} {k number : ℕ} → settle b' k number ≡ settled b (step I limit b (record_of (drop at l))) → number ≡ 0 → Going s limit l b₀ b' (at + 5) (finished + 1) (stuck + k)
+    pub going_next : {b' : Buffers} {k number : ℕ} → settle b' k number ≡ settled b (step I limit b (record_of (drop at l))) → number ≡ 0 → Going s limit l b₀ b' (finished + 1) (stuck + k)
     going_next {b'} {k} {number} e n = record {
-      place = omega (arith, g.place);
-      upto = going_room;
+      upto = omega (arith, going_room);
       whole = g.whole;
       few = omega (arith, g.few, going_few e);
       good = good_next g.good (kind_of (get_or (drop at l) 0 0)) (get_or (drop at l) 1 0) (get_or (drop at l) 2 0 + 256 * get_or (drop at l) 3 0) (get_or (drop at l) 4 0) (zero ∙ e);
-      rest = go (step I limit b (record_of (drop at l))) refl (zero ∙ e) (effect_number I proper limit b (kind_of (get_or (drop at l) 0 0)) (get_or (drop at l) 1 0) (get_or (drop at l) 2 0 + 256 * get_or (drop at l) 3 0) (get_or (drop at l) 4 0));
+      rest = rw next_at (go (step I limit b (record_of (drop at l))) refl (zero ∙ e) (effect_number I proper limit b (kind_of (get_or (drop at l) 0 0)) (get_or (drop at l) 1 0) (get_or (drop at l) 2 0 + 256 * get_or (drop at l) 3 0) (get_or (drop at l) 4 0)));
     }
       where
+        next_at : 5 * (finished + 1) ≡ at + 5
+        next_at = omega arith
+
         zero : settle b' k 0 ≡ settle b' k number
         zero = ap (settle b' k) (sym n)
 

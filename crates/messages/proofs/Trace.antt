@@ -1,6 +1,6 @@
 -- Every list of calls after an opening keeps to the rules and to demand 3. The steps of a trace are the generated postconditions of `open`, `run` and `report`.
 -- Assumes nothing.
-use Rattle.std.proofs.Common.{◌≡◌, ℕ, cond, eqb, List, [], ◌∷◌, ℤ, sym, refl, ap, ◌∙◌, subst, ap₂, Bor, MutBor, eq-eqb, eqb-true}
+use Rattle.std.proofs.Common.{Option, Some, None, Result, Ok, Err, ◌≤◌, pos, arith, ◌≡◌, ℕ, cond, eqb, List, [], ◌∷◌, ℤ, sym, refl, ap, ◌∙◌, subst, ap₂, Bor, MutBor, eq-eqb, eqb-true}
 use contract.Lifetimes.{Lfts}
 use borrow.Fn.World.{ArgsD, ResD}
 use denote.Triple.Clauses.{Ended, AtExit, Lasts, at_exit}
@@ -14,9 +14,12 @@ use Rattle.rules.specs.Demand.{Holds}
 use Rattle.rules.proofs.Calls.{Under, lengths_ok_lem, sound, rules_hold}
 use Rattle.messages.specs.declared.answers.Answer.{Answer}
 use Rattle.messages.specs.declared.answers.Report.{Report}
-use Rattle.messages.specs.declared.answers.Report.TheVariants.{Refused, Bound, Kept}
+use Rattle.messages.specs.declared.answers.Report.TheVariants.{Bound, Kept}
 use Rattle.messages.specs.Lent.{lent, opens}
+use Rattle.instance.specs.declared.refusal.Refusal.{Refusal}
+use Rattle.instance.specs.Refusal.{number, number_of, refused_in}
 use Rattle.messages.specs.Answers.{reported_as, ran_as}
+use Rattle.messages.proofs.Numbers.{named, named_number, run_number, Small, report_number}
 use Rattle.rules.proofs.Opening.{by_checks, open_fills}
 use Rattle.messages.specs.contracts.opening.open as Open
 use Rattle.messages.proofs.opening.open.Reads as OpenReads
@@ -65,16 +68,16 @@ module _ (c : Made Reporting.ended ReportingReads.Post) where
   abbrev report_left : Buffers
   report_left = four_read (at_exit Reporting.ended c.κs c.args c.lasts).1
 
--- `Opens s m r n`: lent the sheet s and the buffers m, an opening answered r and left the buffers n
+-- `Opens s m r n`: lent the sheet s and the buffers m, an opening answered the refusal of number r and left the buffers n
 pub data Opens : List ℕ → Buffers → ℕ → Buffers → Type 0 where
-  opened_by : (c : Made Open.ended OpenReads.Post) → Opens c.args.0.now (open_lent c) c.answer (open_left c)
+  opened_by : (c : Made Open.ended OpenReads.Post) → Opens c.args.0.now (open_lent c) (refused_in c.answer) (open_left c)
 
 -- `Runs s l m a n`: lent the sheet s, the list of records l and the buffers m, a run answered a and left the buffers n
 pub data Runs : List ℕ → List ℕ → Buffers → Answer → Buffers → Type 0 where
   ran_by : (c : Made Run.ended RunReads.Post) → Runs c.args.0.now c.args.1.0.now (run_lent c) c.answer (run_left c)
 
 -- `Reports s m a n`: lent the sheet s and the buffers m, a report answered a and left the buffers n
-pub data Reports : List ℕ → Buffers → Report → Buffers → Type 0 where
+pub data Reports : List ℕ → Buffers → Result Report Refusal → Buffers → Type 0 where
   reported_by : (c : Made Reporting.ended ReportingReads.Post) → Reports c.args.0.now (report_lent c) c.answer (report_left c)
 
 -- an opening answers and leaves what the rules say
@@ -86,11 +89,11 @@ run_ruled : {s l : List ℕ} {m n : Buffers} {a : Answer} → Runs s l m a n →
 run_ruled (ran_by c) = c.promise
 
 -- a report answers what the rules say
-report_ruled : {s : List ℕ} {m n : Buffers} {a : Report} → Reports s m a n → reported_as a ≡ report_of s cost_limit m
+report_ruled : {s : List ℕ} {m n : Buffers} {a : Result Report Refusal} → Reports s m a n → reported_as a ≡ report_of s cost_limit m
 report_ruled (reported_by c) = c.promise
 
 -- a report leaves the buffers as they were: what is lent to read alone stays
-report_keeps : {s : List ℕ} {m n : Buffers} {a : Report} → Reports s m a n → n ≡ m
+report_keeps : {s : List ℕ} {m n : Buffers} {a : Result Report Refusal} → Reports s m a n → n ≡ m
 report_keeps (reported_by c) = refl
 
 -- ---- a list of calls
@@ -103,8 +106,8 @@ leave b a = record { buffers = b; answer = a }
 pub data Trace (s : List ℕ) : List Call → List Point → Type 0 where
   start : {m n : Buffers} → Opens s m 0 n → Trace s [] (leave n opening ∷ [])
   then_run : {cs : List Call} {p : Point} {ps : List Point} {l : List ℕ} {a : Answer} {n : Buffers}
-      → Trace s cs (p ∷ ps) → Runs s l p.buffers a n → Trace s (run cost_limit l ∷ cs) (leave n (ran a.done a.stuck a.refusal) ∷ p ∷ ps)
-  then_report : {cs : List Call} {p : Point} {ps : List Point} {a : Report} {n : Buffers}
+      → Trace s cs (p ∷ ps) → Runs s l p.buffers a n → Trace s (run cost_limit l ∷ cs) (leave n (ran a.done a.stuck (number_of a.refusal)) ∷ p ∷ ps)
+  then_report : {cs : List Call} {p : Point} {ps : List Point} {a : Result Report Refusal} {n : Buffers}
       → Trace s cs (p ∷ ps) → Reports s p.buffers a n → Trace s (report cost_limit ∷ cs) (leave n (reported (reported_as a)) ∷ p ∷ ps)
 
 -- ---- what an opening that was not refused says of the sheet, and what it leaves
@@ -147,12 +150,12 @@ ran_to q = leave q.buffers (ran q.finished q.stuck q.refusal)
 
 -- a run as made is the run of the rules
 run-next : {s l : List ℕ} {n : Buffers} {a : Answer} (p q : Point) → Runs s l p.buffers a n → p ≡ q
-    → leave n (ran a.done a.stuck a.refusal) ≡ next s (run cost_limit l) q.buffers
+    → leave n (ran a.done a.stuck (number_of a.refusal)) ≡ next s (run cost_limit l) q.buffers
 unfolding next
 run-next {s} {l} p q c e = ap ran_to (run_ruled c ∙ ap (λ (x : Point). run_of s cost_limit x.buffers l) e)
 
 -- a report as made is the report of the rules
-report-next : {s : List ℕ} {n : Buffers} {a : Report} (p q : Point) → Reports s p.buffers a n → p ≡ q
+report-next : {s : List ℕ} {n : Buffers} {a : Result Report Refusal} (p q : Point) → Reports s p.buffers a n → p ≡ q
     → leave n (reported (reported_as a)) ≡ next s (report cost_limit) q.buffers
 unfolding next
 report-next {s} p q c e =
@@ -184,17 +187,21 @@ some_open : (s : List ℕ) (b n : Buffers) → opens n 0 ≡ open_of s b → Ope
 some_open s b n e = opened_by (record {
   κs = ([], ([], ([], ([], ([], tt)))));
   args = (ref s, (mut_ref b.nodes, (mut_ref b.labels, (mut_ref b.edges, (mut_ref b.incumbent, tt)))));
-  answer = 0;
+  answer = Ok tt;
   lasts = (tt, (n.nodes, (n.labels, (n.edges, (n.incumbent, tt)))));
   promise = e;
 })
 
 -- a run as the contract's answer has it
 abbrev answer_of : Ran → Answer
-answer_of q = record { done = q.finished; stuck = q.stuck; refusal = q.refusal }
+answer_of q = record { done = q.finished; stuck = q.stuck; refusal = named q.refusal }
+
+-- there and back
+answer_same : (q : Ran) → q.refusal ≤ 16 → ran_as q.buffers (answer_of q) ≡ q
+answer_same q h = ap (λ (k : ℕ). record { buffers = q.buffers; finished = q.finished; stuck = q.stuck; refusal = k }) (named_number q.refusal h)
 
 -- a run that leaves and answers q
-some_run : (s l : List ℕ) (b : Buffers) (q : Ran) → q ≡ run_of s cost_limit b l → Runs s l b (answer_of q) q.buffers
+some_run : (s l : List ℕ) (b : Buffers) (q : Ran) → ran_as q.buffers (answer_of q) ≡ run_of s cost_limit b l → Runs s l b (answer_of q) q.buffers
 some_run s l b q e = ran_by (record {
   κs = ([], ([], ([], ([], ([], ([], tt))))));
   args = (ref s, (ref l, (mut_ref b.nodes, (mut_ref b.labels, (mut_ref b.edges, (mut_ref b.incumbent, tt))))));
@@ -204,19 +211,27 @@ some_run s l b q e = ran_by (record {
 })
 
 -- a report of the rules as the contract's answer has it
-abbrev report_as : calls.Report → Report
-report_as (calls.refused k) = Refused k
-report_as (calls.bound z) = Bound z
-report_as (calls.kept z p g) = Kept z p g
+abbrev refused_as : Option Refusal → Result Report Refusal
+refused_as None = Ok (Bound (pos 0))
+refused_as (Some r) = Err r
+
+abbrev report_as : calls.Report → Result Report Refusal
+report_as (calls.refused k) = refused_as (named k)
+report_as (calls.bound z) = Ok (Bound z)
+report_as (calls.kept z p g) = Ok (Kept z p g)
 
 -- there and back
-report_same : (r : calls.Report) → reported_as (report_as r) ≡ r
-report_same (calls.refused k) = refl
-report_same (calls.bound z) = refl
-report_same (calls.kept z p g) = refl
+report_same : (r : calls.Report) → Small r → reported_as (report_as r) ≡ r
+report_same (calls.refused k) (h, g) = go (named k) (named_number k g)
+  where
+    go : (o : Option Refusal) → number_of o ≡ k → reported_as (refused_as o) ≡ calls.refused k
+    go None e = absurd (omega (arith, e, h))
+    go (Some r) e = ap calls.refused e
+report_same (calls.bound z) h = refl
+report_same (calls.kept z p g) h = refl
 
 -- a report that answers a
-some_report : (s : List ℕ) (b : Buffers) (a : Report) → reported_as a ≡ report_of s cost_limit b → Reports s b a b
+some_report : (s : List ℕ) (b : Buffers) (a : Result Report Refusal) → reported_as a ≡ report_of s cost_limit b → Reports s b a b
 some_report s b a e = reported_by (record {
   κs = ([], ([], ([], ([], ([], tt)))));
   args = (ref s, (ref b.nodes, (ref b.labels, (ref b.edges, (ref b.incumbent, tt)))));
@@ -225,19 +240,28 @@ some_report s b a e = reported_by (record {
   promise = e;
 })
 
+-- one run more, at a point p
+run_at : (s l : List ℕ) (cs : List Call) (p : Point) (ps : List Point) → Trace s cs (p ∷ ps) → Trace s (run cost_limit l ∷ cs) (next s (run cost_limit l) p.buffers ∷ p ∷ ps)
+unfolding next
+run_at s l cs p ps t =
+    let q = run_of s cost_limit p.buffers l in
+    let e = answer_same q (run_number s cost_limit p.buffers l) in
+    subst (λ (x : Ran). Trace s (run cost_limit l ∷ cs) (leave x.buffers (ran x.finished x.stuck x.refusal) ∷ p ∷ ps)) e (then_run t (some_run s l p.buffers q e))
+
 -- one run more
 more_run : (s l : List ℕ) (cs : List Call) → Trace s cs (points s cs) → Trace s (run cost_limit l ∷ cs) (points s (run cost_limit l ∷ cs))
-unfolding points rules next
-more_run s l [] t = then_run t (some_run s l _ (run_of s cost_limit (rules s []).buffers l) refl)
-more_run s l (c ∷ cs) t = then_run t (some_run s l _ (run_of s cost_limit (rules s (c ∷ cs)).buffers l) refl)
+unfolding points rules
+more_run s l [] t = run_at s l [] (rules s []) [] t
+more_run s l (c ∷ cs) t = run_at s l (c ∷ cs) (rules s (c ∷ cs)) (points s cs) t
 
 -- one report more, at a point p
 report_at : (s : List ℕ) (cs : List Call) (p : Point) (ps : List Point) → Trace s cs (p ∷ ps) → Trace s (report cost_limit ∷ cs) (next s (report cost_limit) p.buffers ∷ p ∷ ps)
 unfolding next
 report_at s cs p ps t =
     let r = report_of s cost_limit p.buffers in
-    subst (λ (x : calls.Report). Trace s (report cost_limit ∷ cs) (leave p.buffers (reported x) ∷ p ∷ ps)) (report_same r)
-    (then_report t (some_report s p.buffers (report_as r) (report_same r)))
+    let e = report_same r (report_number s cost_limit p.buffers) in
+    subst (λ (x : calls.Report). Trace s (report cost_limit ∷ cs) (leave p.buffers (reported x) ∷ p ∷ ps)) e
+    (then_report t (some_report s p.buffers (report_as r) e))
 
 -- one report more
 more_report : (s : List ℕ) (cs : List Call) → Trace s cs (points s cs) → Trace s (report cost_limit ∷ cs) (points s (report cost_limit ∷ cs))

@@ -1,6 +1,6 @@
 -- Nodes that are seated, as a placing.
 -- Assumes nothing.
-use mathlib.Core.Path.{◌≡◌, sym, ap, ◌∙◌, subst}
+use mathlib.Core.Path.{◌≡◌, sym, ap, ◌∙◌}
 use mathlib.Core.Bool.{Bool, true, false}
 use mathlib.Core.List.{List}
 use mathlib.Core.Logic.{⊎_elim}
@@ -8,7 +8,6 @@ use Prim.Native.Nat.{ℕ, ◌+◌, ◌≤◌, ◌<◌}
 use native.Mathlib.Omega.{arith}
 use borrow.Author.Tests.{ltb-true, ltb-false}
 use lib.Dec.{ltb}
-use Rattle.integers.specs.Words.{bit}
 use Rattle.integers.proofs.Places.{by-test}
 use Rattle.integers.proofs.Words.{bit_small}
 use Rattle.assignment.proofs.Counts.{differ, by-same}

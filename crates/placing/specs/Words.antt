@@ -1,11 +1,11 @@
 -- Placing by words: a node's labels are the bits of a word. A position is the label itself, and 255 for the label that any number of nodes may take.
 use Rattle.std.specs.Prelude.{◌≡◌, Bool, true, false, cond, ◌&&◌, ◌||◌, List, ◌⊎◌, ℕ, zero, suc, ◌+◌, ◌-◌, ◌^◌, ◌≤◌, ◌<◌, eqb, ltb, length, get_or}
-use Rattle.std.specs.Int.Bits.{bit_and, bit_xor}
+use Rattle.std.specs.Int.Bits.{bit_and}
 use Rattle.std.specs.Int.Count.{ones}
 use Rattle.integers.specs.Words.{bit, Words}
 use Rattle.instance.specs.Instance.{Instance, first}
 use Rattle.assignment.specs.Rows.{Rows, In, But, count, Node, Placed}
-use Rattle.assignment.specs.First.{First, Settled}
+use Rattle.assignment.specs.First.{Settled}
 
 -- a table of numbers, and one of flags, as a function of the place
 abbrev pub entry : List ℕ → ℕ → ℕ

@@ -1,5 +1,5 @@
 // Each node in turn at its lowest free label.
-ghost use Rattle.std.specs.Prelude.{◌≡◌, IfSome};
+ghost use Rattle.std.specs.Prelude.{IfSome};
 ghost use Rattle.assignment.specs.First.{First};
 ghost use Rattle.placing.specs.Words.{entry, All};
 

@@ -1,11 +1,10 @@
 // Nodes move along a trail of labels, so that one more node is placed.
 ghost use Rattle.std.specs.Prelude.{◌≡◌, ℕ, IfOk, IfErr};
-ghost use Rattle.integers.specs.Words.{bit};
-ghost use Rattle.placing.specs.Words.{entry, Asked, Met, Rooted, Ended};
+ghost use Rattle.placing.specs.Words.{Asked, Met, Rooted, Ended};
 
-use crate::search::{Meeting, Steps, search};
+use crate::search::{Meeting, Steps};
 use crate::seats::Seats;
-use crate::words::{bit_of, has, lowest};
+use crate::words::{has, lowest};
 
 impl<'a> Seats<'a> {
     // The label that a search met is free: the node by way of whose label it was found takes it, the label left goes to the one before, and so on to the root.
@@ -44,7 +43,7 @@ impl<'a> Seats<'a> {
             by: [0; 64],
             words: [0; 64],
         };
-        let met = search(&self.reach, self.free, start, before, &mut steps)?;
+        let met = self.search(start, before, &mut steps)?;
         self.shift(&steps, met, root);
         Ok(())
     }

@@ -1,9 +1,10 @@
 // The search for a free label, layer by layer.
-ghost use Rattle.std.specs.Prelude.{◌≡◌, true, false, ℕ, length, MatchResult};
+ghost use Rattle.std.specs.Prelude.{◌≡◌, true, false, ℕ, MatchResult};
 ghost use Rattle.std.specs.Int.Bits.{bit_and};
-ghost use Rattle.integers.specs.Words.{bit, Words};
+ghost use Rattle.integers.specs.Words.{bit};
 ghost use Rattle.placing.specs.Words.{Met, Ended};
 
+use crate::seats::Seats;
 use crate::words::lowest;
 
 // The steps of a search: the label from which each went, and the word of those that it found.
@@ -21,45 +22,43 @@ pub(crate) struct Meeting {
     pub count: usize,
 }
 
-// Goes from the labels of `start`, none of which is free, layer by layer to one that is. Labels of `before` are passed over. Where none is met, the labels seen.
-pub(crate) fn search(
-    reach: &[u64; 64],
-    free: u64,
-    start: u64,
-    before: u64,
-    steps: &mut Steps,
-) -> Result<Meeting, u64>
-    requires { Words reach.now × (length steps.old.by ≡ 64) × (length steps.old.words ≡ 64) × (bit_and start free ≡ 0) × ((l : ℕ) → bit start l ≡ true → bit before l ≡ false) }
-    ensures { MatchResult result (λ met. Met reach.now free start before steps.new.by steps.new.words met.count met.label) (λ seen. Ended reach.now free start before seen) }
-{
-    let mut seen = before | start;
-    let mut layer = start;
-    let mut next = 0u64;
-    let mut count = 0;
-    while layer != 0 {
-        let l = lowest(layer);
-        let new = (reach[l] | seen) ^ seen;
-        steps.by[count] = l as u8;
-        steps.words[count] = new;
-        count += 1;
-        let met = new & free;
-        if met != 0 {
-            let label = lowest(met);
-            return Ok(Meeting { label, count });
-        }
-        seen |= new;
-        let all = next | new;
-        let left = layer & (layer - 1);
-        if left == 0 {
-            if all == 0 {
-                return Err(seen);
+impl<'a> Seats<'a> {
+    // Goes from the labels of `start`, none of which is free, layer by layer to one that is. Labels of `before` are passed over. Where none is met, the labels seen.
+    // Kept: `count` goes up by hand, as the loop goes by the labels of a word and ends within a layer.
+    pub(crate) fn search(&self, start: u64, before: u64, steps: &mut Steps) -> Result<Meeting, u64>
+        requires { (bit_and start self.now.free ≡ 0) × ((l : ℕ) → bit start l ≡ true → bit before l ≡ false) }
+        ensures { MatchResult result (λ met. Met self.now.reach self.now.free start before steps.new.by steps.new.words met.count met.label) (λ seen. Ended self.now.reach self.now.free start before seen) }
+    {
+        let free = self.free;
+        let mut seen = before | start;
+        let mut layer = start;
+        let mut next = 0u64;
+        let mut count = 0;
+        while layer != 0 {
+            let l = lowest(layer);
+            let new = (self.reach[l] | seen) ^ seen;
+            steps.by[count] = l as u8;
+            steps.words[count] = new;
+            count += 1;
+            let met = new & free;
+            if met != 0 {
+                let label = lowest(met);
+                return Ok(Meeting { label, count });
             }
-            layer = all;
-            next = 0;
-        } else {
-            layer = left;
-            next = all;
+            seen |= new;
+            let all = next | new;
+            let left = layer & (layer - 1);
+            if left == 0 {
+                if all == 0 {
+                    return Err(seen);
+                }
+                layer = all;
+                next = 0;
+            } else {
+                layer = left;
+                next = all;
+            }
         }
+        Err(seen)
     }
-    Err(seen)
 }

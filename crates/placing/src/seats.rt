@@ -8,6 +8,8 @@ use crate::tables::Nodes;
 use crate::words::{bit_of, with_label};
 
 // The label that each node takes, 255 for none; the node that holds each label, and the word of that node's labels; and the labels that are free.
+// Kept: 255 and no Option, since it is the sheet's own label that any number of nodes may take, and what is left to a node that takes no other.
+// Kept: each method says that `nodes` is the same, since a ghost field speaks of one value and not of two.
 #[derive(Drop)]
 pub(crate) struct Seats<'a> {
     pub nodes: &'a Nodes,

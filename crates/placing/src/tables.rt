@@ -53,18 +53,17 @@ pub(crate) fn lay_words(sheet: &[u8], n: usize, starts: &[usize; 64]) -> Nodes
     requires { (refusal_of sheet.now ≡ 0) × (n ≡ (instance_of sheet.now).node_count) × ((u : ℕ) → u < n → entry starts.now u ≡ first (instance_of sheet.now) u) }
     ensures { (result.count ≡ n) × Laid (instance_of sheet.now) n result.sets result.own }
 {
-    let mut sets = [0; 64];
-    let mut own = [false; 64];
+    let mut nodes = Nodes {
+        count: n,
+        sets: [0; 64],
+        own: [false; 64],
+    };
     for u in 0..n {
         let from = n + starts[u];
         let past = from + usize::from(sheet[u]);
         let row = row_of(&sheet[from..past]);
-        sets[u] = row.word;
-        own[u] = row.own;
+        nodes.sets[u] = row.word;
+        nodes.own[u] = row.own;
     }
-    Nodes {
-        count: n,
-        sets,
-        own,
-    }
+    nodes
 }

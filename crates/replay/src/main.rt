@@ -15,7 +15,6 @@ use std::{fs, io};
 fn main(rt: HostRuntime) -> io::Result<()> {
     let mut file = fs::open(&rt, "small.vec")?;
     let mut buffer = [0u8; 65_536];
-    let length = terminal::read_full(&mut file, &mut buffer);
-    let tally = cases::replay(&buffer[..length]);
+    let tally = cases::replay(terminal::read_full(&mut file, &mut buffer));
     print!(rt; "{tally}")
 }

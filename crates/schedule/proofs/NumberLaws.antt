@@ -29,9 +29,9 @@ kind_is FromLabel = refl
 kind_is Round = refl
 
 -- a record's bytes
-pub five_are : (k : Kind) (node index share : ℕ) {b : List ℕ} → index < 65_536 → b ≡ to_le_bytes w16 index
+pub record_bytes : (k : Kind) (node index share : ℕ) {b : List ℕ} → index < 65_536 → b ≡ to_le_bytes w16 index
     → (tag_of kind_type k + 1) ∷ node ∷ get_or b 0 0 ∷ get_or b 1 0 ∷ share ∷ [] ≡ bytes (entry (kind_number k) node index share ∷ [])
 unfolding bytes
-five_are k node index share {b} h e =
+record_bytes k node index share {b} h e =
     let d : index / 256 % 256 ≡ index / 256 = omega arith in
     rw (kind_is k, e, d)

@@ -1,32 +1,17 @@
 -- Each place's node and position, marked node by node.
 -- Assumes nothing.
-use mathlib.Core.Path.{◌≡◌, refl, sym, ap, ◌∙◌}
+use mathlib.Core.Path.{◌≡◌, sym, ap, ◌∙◌}
 use mathlib.Core.List.{List}
 use Prim.Native.Nat.{ℕ, ◌+◌, ◌<◌}
 use native.Mathlib.Omega.{arith}
 use borrow.Author.Tests.{eqb-true, eqb-false}
 use lib.Dec.{eqb}
-use lib.ListN.{length, get_or, set, replicate, length-set, length-replicate}
-use lib.Seq.{get_or-set_same, get_or-set_other}
+use lib.ListN.{get_or, replicate, length-replicate}
 use Rattle.integers.specs.Places.{offset}
 use Rattle.integers.proofs.Places.{by-test}
 use Rattle.integers.proofs.Totals.{offset_le}
 use Rattle.schedule.specs.declared.labels.Spot.{Spot}
 use Rattle.schedule.specs.Writing.{spot, Marked, Spots}
-
-pub marked_none : (before : List Spot) (at u : ℕ) → Marked before at u 0 before
-marked_none before at u = record { size = refl; here = λ j h. absurd (omega arith); ahead = λ i h. refl }
-
-pub marked_more : {before after : List Spot} {at u k : ℕ} → Marked before at u k after → at + k < length after → Marked before at u (k + 1) (set after (at + k) (spot u k))
-marked_more {before} {after} {at} {u} {k} m h = record {
-  size = length-set after (at + k) (spot u k) ∙ m.size;
-  here = λ j b. by-test (eqb j k)
-      (λ t. let q : j ≡ k = eqb-true j k t in
-      let e : at + j ≡ at + k = omega arith in
-      let v : spot u k ≡ spot u j = ap (spot u) (sym q) in ap (λ (p : ℕ). get_or (set after (at + k) (spot u k)) p (spot 0 0)) e ∙ get_or-set_same after (at + k) (spot u k) (spot 0 0) h ∙ v)
-      (λ t. let d = eqb-false j k t in get_or-set_other after (at + k) (at + j) (spot u k) (spot 0 0) (λ z. d (omega arith)) ∙ m.here j (let w : j ≡ k → ⊥ = d in omega arith));
-  ahead = λ i b. get_or-set_other after (at + k) i (spot u k) (spot 0 0) (λ z. omega arith) ∙ m.ahead i b;
-}
 
 -- one node after another
 pub spots_none : (degree : ℕ → ℕ) → Spots degree 0 (replicate 1024 (spot 0 0))

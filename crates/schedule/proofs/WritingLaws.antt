@@ -8,9 +8,10 @@ use mathlib.Core.List.Memᴰ.{tail as there}
 use mathlib.Core.List.{Memᴰ as Mem}
 use Prim.Native.Nat.{ℕ, zero, suc, ◌+◌, ◌-◌, ◌*◌, ◌/◌, ◌%◌, ◌≤◌, ◌<◌}
 use native.Mathlib.Omega.{arith}
-use lib.ListN.{length, get_or, take, length-append, length-map}
+use lib.ListN.{length, get_or, take, set, length-set, length-append, length-map}
 use lib.Seq.{take_all, length-take-le}
 use Rattle.std.proofs.lemmas.List.{take_more}
+use Rattle.std.proofs.lemmas.Grind.{take-set_at}
 use Rattle.integers.specs.Places.{range}
 use Rattle.integers.proofs.Places.{range_mem, length-range}
 use Rattle.integers.proofs.Ranges.{range_add}
@@ -96,6 +97,26 @@ pub wrote_all : {w w' : Writer} {l : List Entry} → Wrote w l w' → w.at ≡ 0
 wrote_all {w} {w'} {l} x z e =
     let n : length w'.out.now ≤ w'.at = omega (arith, x.place, x.size, length-bytes l) in
     sym (take_all w'.at w'.out.now n) ∙ x.content ∙ ap (λ (i : ℕ). take i w.out.now ++ bytes l) z
+
+-- five stores
+pub five : (l : List ℕ) (i a b c d e : ℕ) → i + 5 ≤ length l → take (i + 5) (set (set (set (set (set l i a) (i + 1) b) (i + 2) c) (i + 3) d) (i + 4) e) ≡ take i l ++ a ∷ b ∷ c ∷ d ∷ e ∷ []
+five l i a b c d e h =
+    let l1 = set l i a in
+    let l2 = set l1 (i + 1) b in
+    let l3 = set l2 (i + 2) c in
+    let l4 = set l3 (i + 3) d in
+    let n1 : length l1 ≡ length l = length-set l i a in
+    let n2 : length l2 ≡ length l = length-set l1 (i + 1) b ∙ n1 in
+    let n3 : length l3 ≡ length l = length-set l2 (i + 2) c ∙ n2 in
+    let n4 : length l4 ≡ length l = length-set l3 (i + 3) d ∙ n3 in
+    take-set_at l4 (i + 4) (i + 5) e (omega arith) (omega arith)
+    ∙ ap (λ (k : List ℕ). k ++ e ∷ [])
+    (take-set_at l3 (i + 3) (i + 4) d (omega arith) (omega arith)
+    ∙ ap (λ (k : List ℕ). k ++ d ∷ [])
+    (take-set_at l2 (i + 2) (i + 3) c (omega arith) (omega arith)
+    ∙ ap (λ (k : List ℕ). k ++ c ∷ [])
+    (take-set_at l1 (i + 1) (i + 2) b (omega arith) (omega arith) ∙ ap (λ (k : List ℕ). k ++ b ∷ []) (take-set_at l i (i + 1) a (omega arith) (omega arith)))))
+    ∙ simp append_assoc
 
 -- ---- turns of a loop over a list: one thing more
 

@@ -2,6 +2,7 @@
 ghost use Rattle.std.specs.Prelude.{◌≡◌, ◌+◌, ◌*◌, ◌<◌, ◌≤◌, length};
 ghost use Rattle.integers.specs.Places.{range};
 ghost use Rattle.instance.specs.Sheet.{instance_of};
+ghost use Rattle.index.specs.Index.{Indexed};
 ghost use Rattle.schedule.specs.Sweep.{label_at, each, falling, sweep, sweep_length};
 ghost use Rattle.schedule.specs.Written.{written, sweep_of, sweep_room};
 ghost use Rattle.schedule.specs.Writing.{Wrote, Room, Rows, Nodes, Swept, counts_of, edges_by, direction_of, direction_number, end_place, forward_of, backward_by};
@@ -108,19 +109,19 @@ fn backward_nodes(n: usize, lower: &[u16; 4160], higher: &[u16; 4160], w: &mut W
     }
 }
 
-// A whole sweep.
-fn whole(sheet: &[u8], counts: Counts, direction: Direction, w: &mut Writer)
+// A whole sweep. `lower` has the edges by their higher ends.
+fn whole(sheet: &[u8], counts: Counts, direction: Direction, lower: &[u16; 4160], w: &mut Writer)
     requires swept { Swept sheet.now counts }
+    requires indexed { Indexed (instance_of sheet.now).high (instance_of sheet.now).edge_count lower.now }
     requires room { Room w.old (length (sweep (instance_of sheet.now) (direction_number direction))) }
     ensures { Wrote w.old (sweep (instance_of sheet.now) (direction_number direction)) w.new }
 {
-    let lower = edges_by(sheet, counts, End::Higher);
     let higher = edges_by(sheet, counts, End::Lower);
     match direction {
-        Direction::Forward => forward(sheet, counts.nodes, &lower, &higher, w),
+        Direction::Forward => forward(sheet, counts.nodes, lower, &higher, w),
         Direction::Backward => {
             backward_labels(sheet, counts, w);
-            backward_nodes(counts.nodes, &lower, &higher, w);
+            backward_nodes(counts.nodes, lower, &higher, w);
         }
     }
     w.put(Kind::Round, 0, 0, 0);
@@ -169,7 +170,8 @@ pub fn write_sweep(sheet: &[u8], direction: u8, out: &mut [u8]) -> u8
     if out.len() != length_of(sheet, counts) {
         return BUFFER_LENGTH;
     }
+    let lower = edges_by(sheet, counts, End::Higher);
     let mut w = Writer { out, at: 0 };
-    whole(sheet, counts, direction, &mut w);
+    whole(sheet, counts, direction, &lower, &mut w);
     NONE
 }

@@ -1,6 +1,6 @@
 -- A sweep written into a buffer of its own length: the number and the bytes.
 -- Assumes nothing.
-use mathlib.Core.Path.{◌≡◌, sym, ap, ◌∙◌}
+use mathlib.Core.Path.{◌≡◌, refl, sym, ap, ◌∙◌}
 use mathlib.Core.Bool.{cond}
 use mathlib.Core.List.{List, [], ◌∷◌}
 use Prim.Native.Nat.{ℕ}
@@ -38,13 +38,10 @@ module _ (s : List ℕ) (direction : ℕ) where
       by-test (eqb (refusal_of s) 0)
       (λ t. let h = eqb-true (refusal_of s) 0 t in
       by-test (known direction)
-      (λ k. left_by (bytes (sweep (instance_of s) direction)) 0 (e ∙ sym (swept s direction lent h k (z ∙ sym (room_is s h)))) (sym (number_is ∙ if-true _ _ t ∙ if-true _ _ k)) (λ _. refl'))
+      (λ k. left_by (bytes (sweep (instance_of s) direction)) 0 (e ∙ sym (swept s direction lent h k (z ∙ sym (room_is s h)))) (sym (number_is ∙ if-true _ _ t ∙ if-true _ _ k)) (λ _. refl))
       (λ k. left_by lent 12 (e ∙ sym (unknown s direction lent h k)) (sym (number_is ∙ if-true _ _ t ∙ if-false _ _ k)) (λ o. absurd (omega arith))))
       (λ t. let h = eqb-false (refusal_of s) 0 t in
       left_by lent (refusal_of s) (e ∙ sym (unread s direction lent h)) (sym (number_is ∙ if-false _ _ t)) (λ o. absurd (h o)))
-    where
-      refl' : bytes (sweep (instance_of s) direction) ≡ bytes (sweep (instance_of s) direction)
-      refl' = λ j. bytes (sweep (instance_of s) direction)
 
   pub written_all : refusal_for s direction ≡ 0 → bytes (sweep (instance_of s) direction) ≡ sweep_bytes s direction
   unfolding sweep_bytes

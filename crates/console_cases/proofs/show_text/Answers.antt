@@ -1,12 +1,11 @@
 -- `show_text` is safe: the count lies within the text.
--- Assumes nothing.
-use Rattle.std.proofs.Common.{sym}
-use lib.Seq.{length-take-le}
+use Rattle.std.proofs.Common.{rules}
+use Rattle.console.specs.Lines.{text_of}
 use Rattle.console.proofs.Outputs.{output_counts}
+use Rattle.messages.specs.Answers.{reported_as}
 use Rattle.console_cases.proofs.show_text.Goals as goal
 
-pub slice_bounds-text-end : goal.slice_bounds-text-end
-slice_bounds-text-end g c = output_counts _ _ c.compose-count.ensures
-
-pub slice_bounds-write_all-end : goal.slice_bounds-write_all-end
-slice_bounds-write_all-end g c = sym (length-take-le _ _ (output_counts _ _ c.compose-count.ensures))
+pub write_text-requires-clause-within : goal.write_text-requires-clause-within
+write_text-requires-clause-within g c = λ before after count r.
+    let a = c.args.answer in
+    output_counts (text_of a.done a.stuck a.refusal (reported_as c.args.report)) before.now {b = after.now} {r = count} (search rules)

@@ -1,12 +1,8 @@
 -- `print` is safe: the count lies within the text.
--- Assumes nothing.
-use Rattle.std.proofs.Common.{sym}
-use lib.Seq.{length-take-le}
+use Rattle.std.proofs.Common.{rules}
+use Rattle.console.specs.Program.{printed}
 use Rattle.console.proofs.Outputs.{output_counts}
 use Rattle.terminal.proofs.print.Goals as goal
 
-pub slice_bounds-text-end : goal.slice_bounds-text-end
-slice_bounds-text-end g c = output_counts _ _ c.answer-count.ensures
-
-pub slice_bounds-write_all-end : goal.slice_bounds-write_all-end
-slice_bounds-write_all-end g c = sym (length-take-le _ _ (output_counts _ _ c.answer-count.ensures))
+pub write_text-requires-clause-within : goal.write_text-requires-clause-within
+write_text-requires-clause-within g c = λ before after count r. output_counts (printed c.args.sheet.now c.args.records.now) before.now {b = after.now} {r = count} (search rules)

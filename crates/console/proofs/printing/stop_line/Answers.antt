@@ -2,13 +2,13 @@
 -- Assumes nothing.
 use borrow.Author.Tests.{eq-eqb, ne_eqb}
 use Rattle.console.specs.Lines.{stop_line}
-use Rattle.console.proofs.PutLaws.{put_none}
+use Rattle.console.proofs.WritingLaws.{wrote_none}
 use Rattle.console.proofs.printing.stop_line.Goals as goal
 
-pub returns-then-refusal-eq-NONE : goal.returns-then-refusal-eq-NONE
+pub returns-then-refusal-ne-NONE : goal.returns-then-refusal-ne-NONE
 unfolding stop_line
-returns-then-refusal-eq-NONE c = rw (eq-eqb c.args.refusal 0 c.if-refusal-eq-NONE.true) (put_none c.args.at c.args.out.now)
+returns-then-refusal-ne-NONE c = rw (ne_eqb c.args.refusal 0 c.if-refusal-ne-NONE.true) c.refused_line.ensures
 
-pub returns : goal.returns
+pub returns-else-refusal-ne-NONE : goal.returns-else-refusal-ne-NONE
 unfolding stop_line
-returns c = rw (ne_eqb c.args.refusal 0 c.if-refusal-eq-NONE.false) c.refused_line.ensures.0
+returns-else-refusal-ne-NONE c = rw (eq-eqb c.args.refusal 0 c.if-refusal-ne-NONE.false) (wrote_none c.args.text.now)

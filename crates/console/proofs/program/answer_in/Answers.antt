@@ -9,7 +9,7 @@ use Rattle.rules.specs.Run.{Ran}
 use Rattle.rules.specs.Calls.{Opened, run_of, cost_limit}
 use Rattle.messages.specs.Lent.{lent}
 use Rattle.messages.specs.Answers.{ran_as}
-use Rattle.console.proofs.PutLaws.{out_as}
+use Rattle.console.proofs.WritingLaws.{out_as}
 use Rattle.console.proofs.ProgramLaws.{open_refusal_lem, open_leaves, printed_refused, printed_long, printed_ran}
 use native.Mathlib.Omega.{arith}
 use Rattle.console.proofs.program.answer_in.Goals as goal

@@ -1,5 +1,4 @@
 -- `edge_sum` meets its contract: one table after another.
-use Rattle.std.proofs.Common.{◌-◌}
 use Rattle.instance.specs.Instance.{table_size}
 use Rattle.instance.specs.Sheet.{instance_of}
 use Rattle.messages.specs.Bounds.{table_least}
@@ -7,7 +6,4 @@ use Rattle.messages.proofs.SumLaws.{Summed}
 use Rattle.messages.proofs.bound.edge_sum.Given as goal
 
 abbrev pub invariant-loop-e : goal.invariant-loop-e
-invariant-loop-e l = Summed (table_size (instance_of l.sheet)) (table_least l.sheet l.edges) l.count l.sum l.at l.e
-
-abbrev pub decreases-loop-e : goal.decreases-loop-e
-decreases-loop-e l = l.count - l.e
+invariant-loop-e l = Summed (table_size (instance_of l.sheet.bytes.now)) (table_least l.sheet.bytes.now l.edges) l.sheet.edges l.sum l.at l.e

@@ -3,40 +3,39 @@ use Rattle.std.proofs.Common.{◌≡◌, length, get_or, pos, ap, ◌∙◌, ap�
 use Rattle.std.specs.Int.{int_min}
 use Rattle.integers.proofs.Bits.{answer}
 use Rattle.instance.specs.Sheet.{instance_of}
+use Rattle.instance.proofs.Sheets.{positions_is}
 use Rattle.messages.specs.Bounds.{least_labels}
 use Rattle.messages.proofs.RowLaws.{less_back}
 use Rattle.messages.proofs.LabelLaws.{leasts_none, leasts_turn}
 use Rattle.messages.proofs.bound.label_leasts.Goals as goal
 
 pub loop-i-init : goal.loop-i-init
-loop-i-init c = (omega arith, leasts_none _ _)
+loop-i-init c = leasts_none _ _
 
-pub label_at-l-requires : goal.label_at-l-requires
-label_at-l-requires c = (c.requires.viewed, omega (arith, c.loop-i-test.true, c.requires.node_fits.size))
+pub label-l-requires : goal.label-l-requires
+label-l-requires c = omega (arith, c.loop-i-test.true, c.requires.size, positions_is c.args.sheet.now)
 
 pub offset_bounds-least-l : goal.offset_bounds-least-l
-offset_bounds-least-l c = omega (arith, c.label_at-l.ensures.1)
+offset_bounds-least-l c = omega (arith, c.label-l.ensures.1)
 
 pub bounds-least-l : goal.bounds-least-l
-bounds-least-l c = c.label_at-l.ensures.1
+bounds-least-l c = c.label-l.ensures.1
 
 pub offset_bounds-least-l-in-loop-i : goal.offset_bounds-least-l-in-loop-i
-offset_bounds-least-l-in-loop-i c = omega (arith, c.label_at-l.ensures.1)
+offset_bounds-least-l-in-loop-i c = omega (arith, c.label-l.ensures.1)
 
 pub bounds-least-l-in-loop-i : goal.bounds-least-l-in-loop-i
-bounds-least-l-in-loop-i c = c.label_at-l.ensures.1
+bounds-least-l-in-loop-i c = c.label-l.ensures.1
 
 pub loop-i-preserved : goal.loop-i-preserved
 loop-i-preserved c =
     let a = c.args in
     let x = get_or a.labels.now c.loop-i.i (pos 0) in
-    let y = get_or c.loop-i.least c.label_at-l.result (pos 0) in (
-      omega arith,
-      leasts_turn (instance_of a.sheet.now) a.labels.now c.loop-i.invariant.1 c.label_at-l.ensures.0 c.label_at-l.ensures.1
-          (answer c.min.type_inv (c.min.ensures.value ∙ ap₂ int_min (to_z-of_z {w = w64} {z = y} (search rules)) (to_z-of_z {w = w64} {z = x} (search rules)) ∙ less_back y x)),
-    )
+    let y = get_or c.loop-i.least c.label-l.result (pos 0) in
+    leasts_turn (instance_of a.sheet.now.bytes.now) a.labels.now c.loop-i.invariant c.label-l.ensures.0 c.label-l.ensures.1
+          (answer c.min.type_inv (c.min.ensures.value ∙ ap₂ int_min (to_z-of_z {w = w64} {z = y} (search rules)) (to_z-of_z {w = w64} {z = x} (search rules)) ∙ less_back y x))
 
 pub returns : goal.returns
 returns c =
     let e : c.loop-i.i ≡ length c.args.labels.now = omega arith in
-    c.loop-i.invariant.1 ∙ ap (least_labels (instance_of c.args.sheet.now) c.args.labels.now) (e ∙ c.requires.node_fits.size)
+    c.loop-i.invariant ∙ ap (least_labels (instance_of c.args.sheet.now.bytes.now) c.args.labels.now) (e ∙ c.requires.size)

@@ -1,11 +1,8 @@
 -- `label_leasts` meets its contract: the places are gone through, each label's least kept in its place.
-use Rattle.std.proofs.Common.{◌≡◌, ◌-◌, ◌≤◌, length}
+use Rattle.std.proofs.Common.{◌≡◌}
 use Rattle.instance.specs.Sheet.{instance_of}
 use Rattle.messages.specs.Bounds.{least_labels}
 use Rattle.messages.proofs.bound.label_leasts.Given as goal
 
 abbrev pub invariant-loop-i : goal.invariant-loop-i
-invariant-loop-i l = (l.i ≤ length l.labels) × (l.least ≡ least_labels (instance_of l.sheet) l.labels l.i)
-
-abbrev pub decreases-loop-i : goal.decreases-loop-i
-decreases-loop-i l = length l.labels - l.i
+invariant-loop-i l = l.least ≡ least_labels (instance_of l.sheet.bytes.now) l.labels l.i

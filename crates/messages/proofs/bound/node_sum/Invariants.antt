@@ -1,12 +1,8 @@
 -- `node_sum` meets its contract: one row after another.
-use Rattle.std.proofs.Common.{◌-◌}
 use Rattle.instance.specs.Sheet.{instance_of}
 use Rattle.messages.specs.Bounds.{row_least}
 use Rattle.messages.proofs.SumLaws.{Summed}
 use Rattle.messages.proofs.bound.node_sum.Given as goal
 
 abbrev pub invariant-loop-u : goal.invariant-loop-u
-invariant-loop-u l = Summed (instance_of l.sheet).degree (row_least (instance_of l.sheet) l.nodes) l.count l.sum l.at l.u
-
-abbrev pub decreases-loop-u : goal.decreases-loop-u
-decreases-loop-u l = l.count - l.u
+invariant-loop-u l = Summed (instance_of l.sheet.bytes.now).degree (row_least (instance_of l.sheet.bytes.now) l.nodes) l.sheet.nodes l.sum l.at l.u

@@ -4,38 +4,38 @@ use Rattle.integers.proofs.Places.{by_cond}
 use Rattle.integers.proofs.Rows.{part_back}
 use Rattle.instance.specs.Instance.{Instance}
 use Rattle.instance.specs.Sheet.{instance_of}
-use Rattle.messages.specs.Seen.{labels_of}
+use Rattle.instance.specs.Described.{labels_of}
 use Rattle.messages.specs.EdgeRecord.{edge_move}
 use Rattle.messages.proofs.SheetLaws.{proper, start_is}
 use Rattle.messages.proofs.EdgeRecordLaws.{legal_node, legal_edge_lem, row_ends, table_ends, row_room, table_room, legal_joined, put_back, legal_moved}
 use Rattle.messages.proofs.edge_record.move_edge.Goals as goal
-use Rattle.messages.proofs.edge_record.move_edge.Goals.{After-either-w, After-high_end-high, After-labels_of-other, Start}
+use Rattle.messages.proofs.edge_record.move_edge.Goals.{After-either-w, After-high-high, After-labels_of-other, Start}
 
 -- the end that is named, and the other one
 module _ (o : After-either-w) where
-  abbrev h : After-high_end-high
-  h = (goal.at.After-either-w o).After-high_end-high
+  abbrev h : After-high-high
+  h = (goal.at.After-either-w o).After-high-high
 
   abbrev q : Start
-  q = (goal.at.After-high_end-high h).Start
+  q = (goal.at.After-high-high h).Start
 
   abbrev s : List ℕ
-  s = q.args.sheet.now
+  s = q.args.sheet.now.bytes.now
 
   abbrev I : Instance
   I = instance_of s
 
   abbrev b : Bool
-  b = eqb q.args.step.node h.low_end-low.result
+  b = eqb q.args.step.node h.low-low.result
 
   named : b ≡ eqb q.args.step.node (I.low q.args.step.index)
-  named = ap (eqb q.args.step.node) h.low_end-low.ensures.0
+  named = ap (eqb q.args.step.node) h.low-low.ensures.0
 
   end : o.either-w.result ≡ cond b (I.high q.args.step.index) (I.low q.args.step.index)
-  end = o.either-w.ensures ∙ (λ j. cond b (h.high_end-high.ensures.0 j) (h.low_end-low.ensures.0 j))
+  end = o.either-w.ensures ∙ (λ j. cond b (h.high-high.ensures.0 j) (h.low-low.ensures.0 j))
 
   end_node : o.either-w.result < I.node_count
-  end_node = subst (λ (w : ℕ). w < I.node_count) (sym o.either-w.ensures) (by_cond (λ (w : ℕ). w < I.node_count) b (λ _. h.high_end-high.ensures.1) (λ _. h.low_end-low.ensures.1))
+  end_node = subst (λ (w : ℕ). w < I.node_count) (sym o.either-w.ensures) (by_cond (λ (w : ℕ). w < I.node_count) b (λ _. h.high-high.ensures.1) (λ _. h.low-low.ensures.1))
 
   end_few : o.either-w.result < 64
   end_few = omega (arith, end_node, (proper s q.requires.seen.viewed.readable).nodes_few)

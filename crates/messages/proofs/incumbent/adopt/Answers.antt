@@ -7,8 +7,8 @@ use Rattle.messages.proofs.incumbent.adopt.Goals as goal
 pub returns-then-replaces : goal.returns-then-replaces
 returns-then-replaces c =
     c.copy_from_slice.ensures.after
-    ∙ adopted_new (instance_of c.args.sheet.now) c.args.x.now c.args.incumbent.now (sym c.replaces.ensures ∙ c.if-replaces.true)
+    ∙ adopted_new (instance_of c.args.sheet.now.bytes.now) c.args.x.now c.args.incumbent.now (sym c.replaces.ensures ∙ c.if-replaces.true)
 
 pub returns-else-replaces : goal.returns-else-replaces
 returns-else-replaces c =
-    adopted_old (instance_of c.args.sheet.now) c.args.x.now c.args.incumbent.now (sym c.replaces.ensures ∙ c.if-replaces.false)
+    adopted_old (instance_of c.args.sheet.now.bytes.now) c.args.x.now c.args.incumbent.now (sym c.replaces.ensures ∙ c.if-replaces.false)

@@ -16,9 +16,9 @@ module _ (p : After-cell_of) where
   start = (goal.at.At-loop-e head).Start
 
   abbrev s : List ℕ
-  s = start.args.sheet.now
+  s = start.args.sheet.now.bytes.now
 
-  room : start.args.view.cells + 4 * p.cell_of.result + 4 ≤ 22_096
+  room : start.args.sheet.now.cells + 4 * p.cell_of.result + 4 ≤ 22_096
   room = omega (arith, (edge_price_here start.requires.viewed.0 p.cell_of.ensures.1).0, (whole s start.requires.viewed.0.readable).short)
 
 -- the price that was read

@@ -6,7 +6,4 @@ use Rattle.messages.proofs.SumLaws.{Added}
 use Rattle.messages.proofs.incumbent.edge_part.Given as goal
 
 abbrev pub invariant-loop-e : goal.invariant-loop-e
-invariant-loop-e l = (l.e ≤ l.count) × Added 1_000_000 (λ d. (instance_of l.sheet).edge_price (chosen_cell (instance_of l.sheet) l.x d)) l.sum l.e
-
-abbrev pub decreases-loop-e : goal.decreases-loop-e
-decreases-loop-e l = l.count - l.e
+invariant-loop-e l = (l.e ≤ l.count) × Added 1_000_000 (λ d. (instance_of l.sheet.bytes.now).edge_price (chosen_cell (instance_of l.sheet.bytes.now) l.x d)) l.sum l.e

@@ -5,7 +5,4 @@ use Rattle.messages.proofs.IncumbentLaws.{MatchTurn}
 use Rattle.messages.proofs.incumbent.is_matching.Given as goal
 
 abbrev pub invariant-loop-u : goal.invariant-loop-u
-invariant-loop-u l = MatchTurn (instance_of l.sheet) l.x l.n l.untaken l.u
-
-abbrev pub decreases-loop-u : goal.decreases-loop-u
-decreases-loop-u l = l.n - l.u
+invariant-loop-u l = MatchTurn (instance_of l.sheet.bytes.now) l.x l.n l.untaken l.u

@@ -17,7 +17,7 @@ module _ (p : In-loop-u) where
   start = (goal.at.In-loop-u p).Start
 
   abbrev s : List ℕ
-  s = start.args.sheet.now
+  s = start.args.sheet.now.bytes.now
 
   abbrev u : ℕ
   u = p.loop-u.u
@@ -37,7 +37,7 @@ module _ (p : In-loop-u) where
   inside : place < node_cells (instance_of s)
   inside = place_in s start.requires.viewed.0.readable start.requires.viewed.1 start.args.x.now node (start.requires.labelling.within u node)
 
-  room : start.args.view.prices + 4 * place + 4 ≤ 22_096
+  room : start.args.sheet.now.prices + 4 * place + 4 ≤ 22_096
   room = omega (arith, (node_price_here start.requires.viewed.0 inside).0, (whole s start.requires.viewed.0.readable).short)
 
 -- the price that was read
@@ -47,7 +47,7 @@ module _ (c : After-price_at-sum) where
 
   price : c.price_at-sum.result ≡ (instance_of (s turn)).node_price (chosen (instance_of (s turn)) (start turn).args.x.now (u turn))
   price =
-      c.price_at-sum.ensures ∙ ap (λ (z : ℕ). price_at (s turn) ((start turn).args.view.prices + 4 * (get_or (start turn).args.starts.now (u turn) 0 + z))) c.wide.ensures.0
+      c.price_at-sum.ensures ∙ ap (λ (z : ℕ). price_at (s turn) ((start turn).args.sheet.now.prices + 4 * (get_or (start turn).args.starts.now (u turn) 0 + z))) c.from.ensures
       ∙ (node_price_here (start turn).requires.viewed.0 (inside turn)).1 ∙ ap (instance_of (s turn)).node_price (placed turn)
 
   small : nat_abs c.price_at-sum.result ≤ 1_000_000
@@ -69,17 +69,17 @@ pub bounds-x-u : goal.bounds-x-u
 bounds-x-u c = let p = (goal.at.bounds-x-u c).In-loop-u in omega (arith, node p, (start p).requires.labelling.size)
 
 pub overflow_add-starts : goal.overflow_add-starts
-overflow_add-starts c = omega (arith, room (goal.at.overflow_add-starts c).In-loop-u, c.wide.ensures.0)
+overflow_add-starts c = omega (arith, room (goal.at.overflow_add-starts c).In-loop-u, c.from.ensures)
 
 pub overflow_mul-starts : goal.overflow_mul-starts
-overflow_mul-starts c = omega (arith, room (goal.at.overflow_mul-starts c).In-loop-u, c.wide.ensures.0)
+overflow_mul-starts c = omega (arith, room (goal.at.overflow_mul-starts c).In-loop-u, c.from.ensures)
 
 pub overflow_add-view : goal.overflow_add-view
-overflow_add-view c = omega (arith, room (goal.at.overflow_add-view c).In-loop-u, c.wide.ensures.0)
+overflow_add-view c = omega (arith, room (goal.at.overflow_add-view c).In-loop-u, c.from.ensures)
 
 pub price_at-sum-requires : goal.price_at-sum-requires
 price_at-sum-requires c =
-    let p = (goal.at.price_at-sum-requires c).In-loop-u in omega (arith, (node_price_here (start p).requires.viewed.0 (inside p)).0, c.wide.ensures.0)
+    let p = (goal.at.price_at-sum-requires c).In-loop-u in omega (arith, (node_price_here (start p).requires.viewed.0 (inside p)).0, c.from.ensures)
 
 pub overflow_add-sum : goal.overflow_add-sum
 overflow_add-sum c = rw (same c.price_at-sum.result c.price_at-sum.type_inv) (fits c)

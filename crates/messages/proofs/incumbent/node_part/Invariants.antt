@@ -6,7 +6,4 @@ use Rattle.messages.proofs.SumLaws.{Added}
 use Rattle.messages.proofs.incumbent.node_part.Given as goal
 
 abbrev pub invariant-loop-u : goal.invariant-loop-u
-invariant-loop-u l = (l.u ≤ l.n) × Added 1_000_000 (λ w. (instance_of l.sheet).node_price (chosen (instance_of l.sheet) l.x w)) l.sum l.u
-
-abbrev pub decreases-loop-u : goal.decreases-loop-u
-decreases-loop-u l = l.n - l.u
+invariant-loop-u l = (l.u ≤ l.n) × Added 1_000_000 (λ w. (instance_of l.sheet.bytes.now).node_price (chosen (instance_of l.sheet.bytes.now) l.x w)) l.sum l.u

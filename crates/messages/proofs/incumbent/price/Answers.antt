@@ -33,7 +33,7 @@ overflow_add-result c = rw (same (a c) c.node_part.type_inv, same (b c) c.edge_p
 
 pub returns : goal.returns
 returns c =
-    let J = instance_of c.args.sheet.now in
+    let J = instance_of c.args.sheet.now.bytes.now in
     let x = c.args.x.now in
     let e = to_z-of_z (overflow_add-result c) ∙ ap₂ ◌+ℤ◌ (same (a c) c.node_part.type_inv) (same (b c) c.edge_part.type_inv) in (
       e ∙ price_parts J x (c.node_part.ensures.0 ∙ ap (λ (k : ℕ). total k (λ u. J.node_price (chosen J x u))) c.requires.seen.viewed.nodes) (c.edge_part.ensures.0 ∙ ap (λ (k : ℕ). total k (λ e. J.edge_price (chosen_cell J x e))) c.requires.seen.viewed.edges),

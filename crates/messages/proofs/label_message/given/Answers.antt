@@ -11,16 +11,16 @@ use Rattle.messages.proofs.label_message.given.Goals.{Start}
 
 module _ (q : Start) where
   abbrev given : Bool → ℤ
-  given t = let a = q.args in label_given (instance_of a.sheet.now) a.nodes.now a.labels.now t a.step.node (a.at + a.step.index) a.step.share
+  given t = let a = q.args in label_given (instance_of a.run.now.sheet.bytes.now) a.nodes.now a.labels.now t a.step.node (a.at + a.step.index) a.step.share
 
   abbrev amount : ℤ
-  amount = let a = q.args in label_amount (instance_of a.sheet.now) a.labels.now (a.at + a.step.index) a.step.share
+  amount = let a = q.args in label_amount (instance_of a.run.now.sheet.bytes.now) a.labels.now (a.at + a.step.index) a.step.share
 
   small : nat_abs amount ≤ 2 ^ 41
-  small = let a = q.args in label_fits (instance_of a.sheet.now) a.labels.now q.requires.node_fits.1.range (a.at + a.step.index) a.step.share
+  small = let a = q.args in label_fits (instance_of a.run.now.sheet.bytes.now) a.labels.now q.requires.node_fits.1.range (a.at + a.step.index) a.step.share
 
   -- the record's label is not 255
-  exclusive-at : exclusive ((instance_of q.args.sheet.now).label (q.args.at + q.args.step.index)) ≡ true
+  exclusive-at : exclusive ((instance_of q.args.run.now.sheet.bytes.now).label (q.args.at + q.args.step.index)) ≡ true
   exclusive-at = rw q.requires.viewed.1.begins q.requires.viewed.1.exclusive
 
 pub overflow_add-at : goal.overflow_add-at
@@ -47,4 +47,4 @@ pub returns-else-turned : goal.returns-else-turned
 returns-else-turned c =
     let a = c.args in
     let e = same c.node_amount.result c.node_amount.type_inv ∙ c.node_amount.ensures in
-    (e ∙ ap (given (goal.at.returns-else-turned c).Start) (sym c.if-turned.false), subst (λ (z : ℤ). nat_abs z ≤ 2 ^ 41) (sym e) (node_fits (instance_of a.sheet.now) a.nodes.now c.requires.node_fits.0.range a.step.node (a.at + a.step.index) a.step.share))
+    (e ∙ ap (given (goal.at.returns-else-turned c).Start) (sym c.if-turned.false), subst (λ (z : ℤ). nat_abs z ≤ 2 ^ 41) (sym e) (node_fits (instance_of a.run.now.sheet.bytes.now) a.nodes.now c.requires.node_fits.0.range a.step.node (a.at + a.step.index) a.step.share))

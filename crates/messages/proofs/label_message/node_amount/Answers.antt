@@ -9,18 +9,18 @@ use Rattle.instance.specs.Sheet.{instance_of}
 use Rattle.rules.specs.Calls.{cost_limit}
 use Rattle.messages.proofs.LabelMessageLaws.{row_in, node_given}
 use Rattle.messages.proofs.label_message.node_amount.Goals as goal
-use Rattle.messages.proofs.label_message.node_amount.Goals.{After-degree_of, Start}
+use Rattle.messages.proofs.label_message.node_amount.Goals.{After-degree, Start}
 
 -- the row by the degree that was read
-module _ (c : After-degree_of) where
+module _ (c : After-degree) where
   abbrev start : Start
-  start = (goal.at.After-degree_of c).Start
+  start = (goal.at.After-degree c).Start
 
-  row : start.args.at + c.degree_of.result ≤ length start.args.nodes.now
-  row = omega (arith, c.degree_of.ensures.0, row_in start.requires.place_asked start.requires.node_fits)
+  row : start.args.at + c.degree.result ≤ length start.args.nodes.now
+  row = omega (arith, c.degree.ensures.0, row_in start.requires.place_asked start.requires.node_fits)
 
-  size : (start.args.at + c.degree_of.result) - start.args.at ≡ (instance_of start.args.sheet.now).degree start.args.step.node
-  size = omega (arith, c.degree_of.ensures.0)
+  size : (start.args.at + c.degree.result) - start.args.at ≡ (instance_of start.args.sheet.now.bytes.now).degree start.args.step.node
+  size = omega (arith, c.degree.ensures.0)
 
 pub overflow_add-to : goal.overflow_add-to
 overflow_add-to c = omega (arith, row c)
@@ -33,17 +33,17 @@ slice_bounds-amount_of-end c = row c
 
 pub amount_of-requires : goal.amount_of-requires
 amount_of-requires c =
-    let q = start (goal.at.amount_of-requires c).After-degree_of in
+    let q = start (goal.at.amount_of-requires c).After-degree in
     let l = q.args.nodes.now in
-    let d = (instance_of q.args.sheet.now).degree q.args.step.node in
-    rw (size (goal.at.amount_of-requires c).After-degree_of)
+    let d = (instance_of q.args.sheet.now.bytes.now).degree q.args.step.node in
+    rw (size (goal.at.amount_of-requires c).After-degree)
     record { k_in_bounds = omega (arith, q.requires.place_asked.position, length_part l q.args.at d (row_in q.requires.place_asked q.requires.node_fits)); le_share = q.requires.place_asked.some; within = within_part cost_limit q.args.at d l q.requires.node_fits.range }
 
 pub returns : goal.returns
 returns c =
-    let q = start (goal.at.returns c).After-degree_of in
+    let q = start (goal.at.returns c).After-degree in
     let a = q.args in
     let l = a.nodes.now in
     same c.amount_of.result c.amount_of.type_inv ∙ c.amount_of.ensures
-    ∙ ap (λ (d : ℕ). amount (get_or (part l a.at d) a.step.index (pos 0)) (without (part l a.at d) a.step.index) a.step.share) (size (goal.at.returns c).After-degree_of)
+    ∙ ap (λ (d : ℕ). amount (get_or (part l a.at d) a.step.index (pos 0)) (without (part l a.at d) a.step.index) a.step.share) (size (goal.at.returns c).After-degree)
     ∙ node_given q.requires.place_asked q.requires.node_fits

@@ -14,7 +14,7 @@ use Rattle.messages.proofs.lent.check_lent.Goals.{Else-layout-ne-NONE, Start, Th
 
 module _ (q : Start) where
   abbrev sheet : List ℕ
-  sheet = q.args.sheet.now
+  sheet = q.args.sheet.now.bytes.now
 
   abbrev lends : Buffers
   lends = lent q.args.nodes.now q.args.labels.now q.args.edges.now q.args.incumbent.now

@@ -16,7 +16,7 @@ use Rattle.messages.proofs.list.run_all.Goals.{After-one_record-taken, At-loop-a
 abbrev lends : Start → Buffers
 lends q = lent q.args.nodes.now q.args.labels.now q.args.edges.now q.args.incumbent.now
 
-sizes : (q : Start) → Sized (instance_of q.args.sheet.now) (lends q)
+sizes : (q : Start) → Sized (instance_of q.args.run.now.sheet.bytes.now) (lends q)
 sizes q = q.requires.good.sound.sized
 
 -- at the head of the loop
@@ -25,13 +25,13 @@ module _ (h : At-loop-at) where
   start = (goal.at.At-loop-at h).Start
 
   abbrev I : Instance
-  I = instance_of start.args.sheet.now
+  I = instance_of start.args.run.now.sheet.bytes.now
 
   abbrev l : List ℕ
   l = start.args.records.now
 
   abbrev limit : ℕ
-  limit = start.args.view.limit
+  limit = start.args.run.now.sheet.limit
 
   abbrev b : Buffers
   b = lent h.loop-at.nodes h.loop-at.labels h.loop-at.edges h.loop-at.incumbent
@@ -69,7 +69,7 @@ module _ (p : After-one_record-taken) where
 
 pub loop-at-init : goal.loop-at-init
 loop-at-init c =
-    going_start c.args.sheet.now c.args.view.limit c.args.records.now (lends (goal.at.loop-at-init c).Start) c.requires.good c.requires.records_len
+    going_start c.args.run.now.sheet.bytes.now c.args.run.now.sheet.limit c.args.records.now (lends (goal.at.loop-at-init c).Start) c.requires.good c.requires.records_len
 
 pub record_of-step-requires : goal.record_of-step-requires
 record_of-step-requires c =

@@ -5,7 +5,4 @@ use Rattle.messages.proofs.RunLaws.{Going}
 use Rattle.messages.proofs.list.run_all.Given as goal
 
 abbrev pub invariant-loop-at : goal.invariant-loop-at
-invariant-loop-at l = Going l.sheet l.view.limit l.records (lent l.initial.nodes l.initial.labels l.initial.edges l.initial.incumbent) (lent l.nodes l.labels l.edges l.incumbent) l.at l.done l.stuck
-
-abbrev pub decreases-loop-at : goal.decreases-loop-at
-decreases-loop-at l = length l.records - l.at
+invariant-loop-at l = Going l.run.sheet.bytes.now l.run.sheet.limit l.records (lent l.initial.nodes l.initial.labels l.initial.edges l.initial.incumbent) (lent l.nodes l.labels l.edges l.incumbent) l.at l.done l.stuck

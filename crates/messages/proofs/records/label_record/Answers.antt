@@ -19,7 +19,7 @@ module _ (p : Then-legal_position) where
   start = (goal.at.Then-legal_position p).Start
 
   abbrev I : Instance
-  I = instance_of start.args.sheet.now
+  I = instance_of start.args.run.now.sheet.bytes.now
 
   abbrev r : Record
   r = start.args.step
@@ -34,10 +34,10 @@ module _ (p : Then-legal_position) where
   small = omega (arith, node, start.requires.viewed.0.nodes, nodes_few_lem start.requires.viewed.0)
 
   begins : get_or start.args.starts.now r.node 0 ≡ first I r.node
-  begins = start_is start.args.sheet.now start.requires.viewed.1 start.requires.viewed.0.readable node
+  begins = start_is start.args.run.now.sheet.bytes.now start.requires.viewed.1 start.requires.viewed.0.readable node
 
-  asked : PlaceAsked start.args.sheet.now (get_or start.args.starts.now r.node 0) r.node r.index r.share
-  asked = place_asked start.args.sheet.now start.requires.viewed.0.readable (get_or start.args.starts.now r.node 0) r.node r.index r.share begins legal
+  asked : PlaceAsked start.args.run.now.sheet.bytes.now (get_or start.args.starts.now r.node 0) r.node r.index r.share
+  asked = place_asked start.args.run.now.sheet.bytes.now start.requires.viewed.0.readable (get_or start.args.starts.now r.node 0) r.node r.index r.share begins legal
 
 pub offset_bounds-starts-u : goal.offset_bounds-starts-u
 offset_bounds-starts-u c = omega (arith, small c)
@@ -69,4 +69,4 @@ returns-then-legal_position c =
 pub returns-else-legal_position : goal.returns-else-legal_position
 returns-else-legal_position c =
     let a = c.args in
-    label_refused (instance_of a.sheet.now) a.view.limit a.nodes.now a.labels.now a.turned a.step.node a.step.index a.step.share (sym c.legal_position.ensures ∙ c.if-legal_position.false)
+    label_refused (instance_of a.run.now.sheet.bytes.now) a.view.limit a.nodes.now a.labels.now a.turned a.step.node a.step.index a.step.share (sym c.legal_position.ensures ∙ c.if-legal_position.false)

@@ -10,7 +10,7 @@ use Rattle.messages.proofs.records.legal_edge.Goals.{Start, Then-e-view, Then-le
 
 module _ (q : Start) where
   abbrev I : Instance
-  I = instance_of q.args.sheet.now
+  I = instance_of q.args.sheet.now.bytes.now
 
   abbrev r : Record
   r = q.args.step
@@ -29,16 +29,16 @@ inner p = omega (arith, p.if-u-view.true, (start (goal.at.Then-u-view p).Then-le
 listed : (p : Then-e-view) → (let q = start (goal.at.Then-e-view p).Then-legal_share in (r q).index < (I q).edge_count)
 listed p = omega (arith, p.if-e-view.true, (start (goal.at.Then-e-view p).Then-legal_share).requires.edges)
 
-pub returns-then-u-low_end : goal.returns-then-u-low_end
-returns-then-u-low_end c =
-    let o = (goal.at.returns-then-u-low_end c).Then-legal_share in let q = start o in
-    edge_low (I q) (r q).node (r q).index (r q).share (shared o) (inner (goal.at.returns-then-u-low_end c).Then-u-view) (listed (goal.at.returns-then-u-low_end c).Then-e-view) (c.if-u-low_end.true ∙ c.low_end.ensures.0)
+pub returns-then-u-low : goal.returns-then-u-low
+returns-then-u-low c =
+    let o = (goal.at.returns-then-u-low c).Then-legal_share in let q = start o in
+    edge_low (I q) (r q).node (r q).index (r q).share (shared o) (inner (goal.at.returns-then-u-low c).Then-u-view) (listed (goal.at.returns-then-u-low c).Then-e-view) (c.if-u-low.true ∙ c.low.ensures.0)
 
 pub returns-then-e-view : goal.returns-then-e-view
 returns-then-e-view c =
     let o = (goal.at.returns-then-e-view c).Then-legal_share in let q = start o in
-    ap (eqb (r q).node) c.high_end.ensures.0
-    ∙ edge_high (I q) (r q).node (r q).index (r q).share (shared o) (inner (goal.at.returns-then-e-view c).Then-u-view) (listed (goal.at.returns-then-e-view c).Then-e-view) (λ z. c.if-u-low_end.false (z ∙ sym c.low_end.ensures.0))
+    ap (eqb (r q).node) c.high.ensures.0
+    ∙ edge_high (I q) (r q).node (r q).index (r q).share (shared o) (inner (goal.at.returns-then-e-view c).Then-u-view) (listed (goal.at.returns-then-e-view c).Then-e-view) (λ z. c.if-u-low.false (z ∙ sym c.low.ensures.0))
 
 pub returns-else-e-view : goal.returns-else-e-view
 returns-else-e-view c =

@@ -17,7 +17,7 @@ use Rattle.messages.proofs.reporting.tell.Goals.{Start}
 
 module _ (q : Start) where
   abbrev sheet : List ℕ
-  sheet = q.args.sheet.now
+  sheet = q.args.sheet.now.bytes.now
 
   abbrev lends : Buffers
   lends = lent q.args.nodes.now q.args.labels.now q.args.edges.now q.args.incumbent.now

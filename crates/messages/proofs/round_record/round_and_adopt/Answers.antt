@@ -16,7 +16,7 @@ module _ (p : In-Some) where
   start = (goal.at.In-Some p).Start
 
   abbrev I : Instance
-  I = instance_of start.args.sheet.now
+  I = instance_of start.args.run.now.sheet.bytes.now
 
   abbrev costs : Costs
   costs = costs_by start.args.nodes.now start.args.edges.now
@@ -24,32 +24,32 @@ module _ (p : In-Some) where
   made : Some p.in-Some.x ≡ rounded_by (round I costs)
   made = p.in-Some.ensures
 
-  abbrev same : start.args.view.nodes ≡ I.node_count
+  abbrev same : start.args.run.now.sheet.nodes ≡ I.node_count
   same = start.requires.round_asked.seen.viewed.nodes
 
-  abbrev few : start.args.view.nodes ≤ 64
+  abbrev few : start.args.run.now.sheet.nodes ≤ 64
   few = nodes_few_lem start.requires.round_asked.seen.viewed
 
-  room : start.args.view.nodes ≤ length p.in-Some.x
-  room = omega (arith, few, places_long I costs start.args.view.nodes same few p.in-Some.x made)
+  room : start.args.run.now.sheet.nodes ≤ length p.in-Some.x
+  room = omega (arith, few, places_long I costs start.args.run.now.sheet.nodes same few p.in-Some.x made)
 
 pub returns-in_default : goal.returns-in_default
 returns-in_default c =
     let a = c.args in
-    let I = instance_of a.sheet.now in stuck_left I (round I (costs_by a.nodes.now a.edges.now)) a.incumbent.now c.in_default.ensures
+    let I = instance_of a.run.now.sheet.bytes.now in stuck_left I (round I (costs_by a.nodes.now a.edges.now)) a.incumbent.now c.in_default.ensures
 
 pub slice_bounds-x-end : goal.slice_bounds-x-end
 slice_bounds-x-end c = room (goal.at.slice_bounds-x-end c).In-Some
 
 pub slice_bounds-adopt-end : goal.slice_bounds-adopt-end
 slice_bounds-adopt-end c =
-    let p = (goal.at.slice_bounds-adopt-end c).In-Some in sym (length-take-le (start p).args.view.nodes c.in-Some.x (room p))
+    let p = (goal.at.slice_bounds-adopt-end c).In-Some in sym (length-take-le (start p).args.run.now.sheet.nodes c.in-Some.x (room p))
 
 pub adopt-requires-clause-labelling : goal.adopt-requires-clause-labelling
 adopt-requires-clause-labelling c =
-    let p = (goal.at.adopt-requires-clause-labelling c).In-Some in found_labelling (I p) (costs p) (start p).args.view.nodes (same p) (few p) c.in-Some.x (made p)
+    let p = (goal.at.adopt-requires-clause-labelling c).In-Some in found_labelling (I p) (costs p) (start p).args.run.now.sheet.nodes (same p) (few p) c.in-Some.x (made p)
 
 pub returns : goal.returns
 returns c =
     let p = (goal.at.returns c).In-Some in
-    found_left (I p) (costs p) (start p).args.view.nodes (same p) (few p) c.in-Some.x (made p) (start p).args.incumbent.now _ c.adopt.ensures
+    found_left (I p) (costs p) (start p).args.run.now.sheet.nodes (same p) (few p) c.in-Some.x (made p) (start p).args.incumbent.now _ c.adopt.ensures

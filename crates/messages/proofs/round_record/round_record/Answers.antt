@@ -8,9 +8,9 @@ pub returns-then-names_nothing : goal.returns-then-names_nothing
 returns-then-names_nothing c =
     let a = c.args in
     c.round_and_adopt-stuck.ensures
-    ∙ taken_rounds (instance_of a.sheet.now) a.nodes.now a.edges.now a.incumbent.now a.step.node a.step.index a.step.share (sym c.names_nothing.ensures ∙ c.if-names_nothing.true)
+    ∙ taken_rounds (instance_of a.run.now.sheet.bytes.now) a.nodes.now a.edges.now a.incumbent.now a.step.node a.step.index a.step.share (sym c.names_nothing.ensures ∙ c.if-names_nothing.true)
 
 pub returns-else-names_nothing : goal.returns-else-names_nothing
 returns-else-names_nothing c =
     let a = c.args in
-    taken_refused (instance_of a.sheet.now) a.nodes.now a.edges.now a.incumbent.now a.step.node a.step.index a.step.share (sym c.names_nothing.ensures ∙ c.if-names_nothing.false)
+    taken_refused (instance_of a.run.now.sheet.bytes.now) a.nodes.now a.edges.now a.incumbent.now a.step.node a.step.index a.step.share (sym c.names_nothing.ensures ∙ c.if-names_nothing.false)

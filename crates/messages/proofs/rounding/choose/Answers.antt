@@ -10,7 +10,7 @@ use Rattle.messages.proofs.rounding.choose.Goals as goal
 use Rattle.messages.proofs.rounding.choose.Goals.{In-loop-k, Start}
 
 abbrev I : Start → Instance
-I q = instance_of q.args.sheet.now
+I q = instance_of q.args.sheet.now.bytes.now
 
 inside : (p : In-loop-k) → (p.args.at + p.loop-k.k < node_cells (I (goal.at.In-loop-k p).Start))
 inside p = omega (arith, p.loop-k-test.true, p.requires.2)
@@ -20,13 +20,13 @@ loop-k-init c =
     chosen_none (I (goal.at.loop-k-init c).Start) c.args.at c.args.keys.now c.args.untaken.now
 
 pub overflow_add-at : goal.overflow_add-at
-overflow_add-at c = omega (arith, inside c, positions_few_lem (proper c.args.sheet.now c.requires.0.readable))
+overflow_add-at c = omega (arith, inside c, positions_few_lem (proper c.args.sheet.now.bytes.now c.requires.0.readable))
 
-pub label_at-label-requires : goal.label_at-label-requires
-label_at-label-requires c = (c.requires.0, inside c)
+pub label-label-requires : goal.label-label-requires
+label-label-requires c = (c.requires.0, inside c)
 
 pub bounds-untaken-label : goal.bounds-untaken-label
-bounds-untaken-label c = c.label_at-label.ensures.1
+bounds-untaken-label c = c.label-label.ensures.1
 
 pub better_of-best-requires : goal.better_of-best-requires
 better_of-best-requires c =
@@ -37,7 +37,7 @@ pub loop-k-preserved : goal.loop-k-preserved
 loop-k-preserved c =
     let a = c.args in
     c.better_of-best.ensures
-    ∙ ap₂ (λ (l : ℕ) (b : Option ℕ). better (get_or a.untaken.now l false) (λ (i : ℕ). get_or a.keys.now i (pos 0)) b c.loop-k.k) c.label_at-label.ensures.0 c.loop-k.invariant
+    ∙ ap₂ (λ (l : ℕ) (b : Option ℕ). better (get_or a.untaken.now l false) (λ (i : ℕ). get_or a.keys.now i (pos 0)) b c.loop-k.k) c.label-label.ensures.0 c.loop-k.invariant
     ∙ chosen_more (I (goal.at.loop-k-preserved c).Start) a.at a.keys.now a.untaken.now c.loop-k.k
 
 pub returns : goal.returns

@@ -5,4 +5,4 @@ use Rattle.messages.specs.Rounded.{chosen_from}
 use Rattle.messages.proofs.rounding.choose.Given as goal
 
 abbrev pub invariant-loop-k : goal.invariant-loop-k
-invariant-loop-k l = l.best ≡ chosen_from (instance_of l.sheet) l.at l.keys l.untaken l.k
+invariant-loop-k l = l.best ≡ chosen_from (instance_of l.sheet.bytes.now) l.at l.keys l.untaken l.k

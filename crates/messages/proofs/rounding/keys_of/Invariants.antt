@@ -11,7 +11,4 @@ abbrev pub Keyed : List ℕ → List ℤ → List ℤ → List ℕ → ℕ → L
 Keyed sheet nodes edges x u lowers n keys = keys ≡ keys_over (instance_of sheet) nodes edges x u (map (λ j. get_or lowers j 0) (range (65 * u + 1) n))
 
 abbrev pub invariant-loop-at : goal.invariant-loop-at
-invariant-loop-at l = (65 * l.u + 1 ≤ l.at) × (l.at ≤ 65 * l.u + 1 + many l.lowers l.u) × Keyed l.sheet l.nodes l.edges l.positions l.u l.lowers (l.at - (65 * l.u + 1)) l.keys
-
-abbrev pub decreases-loop-at : goal.decreases-loop-at
-decreases-loop-at l = 65 * l.u + 1 + many l.lowers l.u - l.at
+invariant-loop-at l = (65 * l.u + 1 ≤ l.at) × (l.at ≤ 65 * l.u + 1 + many l.lowers l.u) × Keyed l.run.sheet.bytes.now l.nodes l.edges l.positions l.u l.lowers (l.at - (65 * l.u + 1)) l.keys

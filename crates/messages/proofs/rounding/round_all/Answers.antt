@@ -17,13 +17,13 @@ module _ (t : In-loop-u) where
   start = (goal.at.In-loop-u t).Start
 
   abbrev I : Instance
-  I = instance_of start.args.sheet.now
+  I = instance_of start.args.run.now.sheet.bytes.now
 
   abbrev u : ℕ
   u = t.loop-u.u
 
   good : Proper I
-  good = proper start.args.sheet.now start.requires.seen.viewed.readable
+  good = proper start.args.run.now.sheet.bytes.now start.requires.seen.viewed.readable
 
   node : u < I.node_count
   node = omega (arith, t.loop-u-test.true, start.requires.seen.viewed.nodes)
@@ -32,7 +32,7 @@ module _ (t : In-loop-u) where
   few = omega (arith, t.loop-u-test.true, nodes_few_lem start.requires.seen.viewed)
 
   begins : get_or start.args.starts.now u 0 ≡ first I u
-  begins = start_is start.args.sheet.now start.requires.seen.begun start.requires.seen.viewed.readable node
+  begins = start_is start.args.run.now.sheet.bytes.now start.requires.seen.begun start.requires.seen.viewed.readable node
 
   row : first I u + I.degree u ≤ node_cells I
   row = row_inside I node
@@ -48,7 +48,7 @@ module _ (p : After-choose) where
   picked : p.choose.result ≡ or_none (choice (I turn) (costs_by q.args.nodes.now q.args.edges.now) (take (u turn) turn.loop-u.x) (u turn))
   picked =
       p.choose.ensures
-      ∙ choice_read q.requires.seen.viewed q.args.nodes.now q.args.edges.now turn.loop-u.invariant turn.loop-u-test.true (begins turn) p.keys_of-keys.ensures p.degree_of.ensures.0
+      ∙ choice_read q.requires.seen.viewed q.args.nodes.now q.args.edges.now turn.loop-u.invariant turn.loop-u-test.true (begins turn) p.keys_of-keys.ensures p.degree.ensures.0
 
 -- a choice
 module _ (o : In_ok-k) where
@@ -74,7 +74,7 @@ module _ (o : In_ok-k) where
   inside = omega (arith, position, begins t, row t)
 
 pub loop-u-init : goal.loop-u-init
-loop-u-init c = round_start c.args.sheet.now c.args.view.nodes c.args.nodes.now c.args.edges.now
+loop-u-init c = round_start c.args.run.now.sheet.bytes.now c.args.run.now.sheet.nodes c.args.nodes.now c.args.edges.now
 
 pub keys_of-keys-requires : goal.keys_of-keys-requires
 keys_of-keys-requires c =
@@ -86,13 +86,13 @@ offset_bounds-starts-u c = omega (arith, few (goal.at.offset_bounds-starts-u c).
 pub bounds-starts-u : goal.bounds-starts-u
 bounds-starts-u c = few (goal.at.bounds-starts-u c).In-loop-u
 
-pub degree_of-requires : goal.degree_of-requires
-degree_of-requires c =
-    let t = (goal.at.degree_of-requires c).In-loop-u in ((start t).requires.seen.viewed.readable, node t)
+pub degree-requires : goal.degree-requires
+degree-requires c =
+    let t = (goal.at.degree-requires c).In-loop-u in ((start t).requires.seen.viewed.readable, node t)
 
 pub choose-requires : goal.choose-requires
 choose-requires c =
-    let t = (goal.at.choose-requires c).In-loop-u in ((start t).requires.seen.viewed, c.degree_of.ensures.1, omega (arith, c.degree_of.ensures.0, begins t, row t))
+    let t = (goal.at.choose-requires c).In-loop-u in ((start t).requires.seen.viewed, c.degree.ensures.1, omega (arith, c.degree.ensures.0, begins t, row t))
 
 pub returns-in_err-k : goal.returns-in_err-k
 returns-in_err-k c =
@@ -112,14 +112,14 @@ pub overflow_add-at : goal.overflow_add-at
 overflow_add-at c =
     let o = (goal.at.overflow_add-at c).In_ok-k in omega (arith, inside o, positions_few_lem (good (t o)))
 
-pub label_at-label-requires : goal.label_at-label-requires
-label_at-label-requires c =
-    let o = (goal.at.label_at-label-requires c).In_ok-k in ((r o).requires.seen.viewed, inside o)
+pub label-label-requires : goal.label-label-requires
+label-label-requires c =
+    let o = (goal.at.label-label-requires c).In_ok-k in ((r o).requires.seen.viewed, inside o)
 
 pub loop-u-preserved : goal.loop-u-preserved
 loop-u-preserved c =
     let o = (goal.at.loop-u-preserved c).In_ok-k in
-    round_turn (r o).requires.seen.viewed (r o).args.nodes.now (r o).args.edges.now (t o).loop-u.invariant (t o).loop-u-test.true (made o) (c.label_at-label.ensures.0 ∙ ap (λ (a : ℕ). (I (t o)).label (a + k o)) (begins (t o))) c.exclusive.ensures
+    round_turn (r o).requires.seen.viewed (r o).args.nodes.now (r o).args.edges.now (t o).loop-u.invariant (t o).loop-u-test.true (made o) (c.label-label.ensures.0 ∙ ap (λ (a : ℕ). (I (t o)).label (a + k o)) (begins (t o))) c.exclusive.ensures
 
 pub returns : goal.returns
 returns c =

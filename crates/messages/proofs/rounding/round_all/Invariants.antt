@@ -4,7 +4,4 @@ use Rattle.messages.proofs.RoundTurns.{RoundTurn}
 use Rattle.messages.proofs.rounding.round_all.Given as goal
 
 abbrev pub invariant-loop-u : goal.invariant-loop-u
-invariant-loop-u l = RoundTurn l.sheet l.n l.nodes l.edges l.x l.untaken l.u
-
-abbrev pub decreases-loop-u : goal.decreases-loop-u
-decreases-loop-u l = l.n - l.u
+invariant-loop-u l = RoundTurn l.run.sheet.bytes.now l.n l.nodes l.edges l.x l.untaken l.u

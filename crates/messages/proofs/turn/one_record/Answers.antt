@@ -17,7 +17,7 @@ module _ (q : Start) where
   lends = lent q.args.nodes.now q.args.labels.now q.args.edges.now q.args.incumbent.now
 
   abbrev I : Instance
-  I = instance_of q.args.sheet.now
+  I = instance_of q.args.run.now.sheet.bytes.now
 
   abbrev r : Record
   r = q.args.step
@@ -30,16 +30,16 @@ round_record-requires c =
 
 pub returns-then-step-eq5 : goal.returns-then-step-eq5
 returns-then-step-eq5 c =
-    let q = (goal.at.returns-then-step-eq5 c).Start in round_settled_lem (I q) c.args.view.limit (lends q) (r q).node (r q).index (r q).share c.round_record.ensures
-    ∙ ap (λ (k : Kind). settled (lends q) (effect (I q) c.args.view.limit (lends q) k (r q).node (r q).index (r q).share)) (sym (kind-rounding (r q).kind c.if-step-eq5.true))
+    let q = (goal.at.returns-then-step-eq5 c).Start in round_settled_lem (I q) c.args.run.now.sheet.limit (lends q) (r q).node (r q).index (r q).share c.round_record.ensures
+    ∙ ap (λ (k : Kind). settled (lends q) (effect (I q) c.args.run.now.sheet.limit (lends q) k (r q).node (r q).index (r q).share)) (sym (kind-rounding (r q).kind c.if-step-eq5.true))
 
 pub returns-then-step-eq0 : goal.returns-then-step-eq0
 returns-then-step-eq0 c =
-    let q = (goal.at.returns-then-step-eq0 c).Start in ap₂ (settle (lends q)) c.refused.ensures.0 c.refused.ensures.1 ∙ none_turn (I q) c.args.view.limit (lends q) (r q).kind (r q).node (r q).index (r q).share (inl c.if-step-eq0.true)
+    let q = (goal.at.returns-then-step-eq0 c).Start in ap₂ (settle (lends q)) c.refused.ensures.0 c.refused.ensures.1 ∙ none_turn (I q) c.args.run.now.sheet.limit (lends q) (r q).kind (r q).node (r q).index (r q).share (inl c.if-step-eq0.true)
 
 pub returns-then-step-gt5 : goal.returns-then-step-gt5
 returns-then-step-gt5 c =
-    let q = (goal.at.returns-then-step-gt5 c).Start in ap₂ (settle (lends q)) c.refused-then-step-gt5.ensures.0 c.refused-then-step-gt5.ensures.1 ∙ none_turn (I q) c.args.view.limit (lends q) (r q).kind (r q).node (r q).index (r q).share (inr c.if-step-gt5.true)
+    let q = (goal.at.returns-then-step-gt5 c).Start in ap₂ (settle (lends q)) c.refused-then-step-gt5.ensures.0 c.refused-then-step-gt5.ensures.1 ∙ none_turn (I q) c.args.run.now.sheet.limit (lends q) (r q).kind (r q).node (r q).index (r q).share (inr c.if-step-gt5.true)
 
 pub message-requires : goal.message-requires
 message-requires c =

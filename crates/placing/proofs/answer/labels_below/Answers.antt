@@ -1,16 +1,12 @@
 -- `labels_below` meets its contract: 1 shifted by less than 64 does not wrap.
 -- Assumes nothing.
-use Prim.Native.Nat.{ℕ, ◌-◌, ◌^◌, ◌≤◌}
-use mathlib.Core.Path.{sym, ap, ◌∙◌, subst}
+use Prim.Native.Nat.{ℕ, ◌-◌, ◌^◌}
+use mathlib.Core.Path.{sym, ap, ◌∙◌}
 use borrow.Author.Tests.{lt-ltb, le-ltb}
-use lib.Pow.{pow_pos}
 use Rattle.integers.proofs.Places.{if-true, if-false}
 use Rattle.integers.proofs.Words.{one_shifted}
 use Rattle.placing.specs.Words.{below}
 use Rattle.placing.proofs.answer.labels_below.Goals as goal
-
-pub overflow_sub-result : goal.overflow_sub-result
-overflow_sub-result c = let l = c.args.label in subst (λ n. 1 ≤ n) (sym (one_shifted l c.if-label-lt64.true)) (pow_pos l)
 
 pub returns-then-label-lt64 : goal.returns-then-label-lt64
 unfolding below

@@ -1,5 +1,5 @@
 -- `place` meets its contract: refused, nothing is altered; else the smallest matching, or a set that shows why there is none.
-use mathlib.Core.Path.{◌≡◌, refl, sym, ap, ◌∙◌, subst}
+use mathlib.Core.Path.{◌≡◌, sym, ap, ◌∙◌, subst}
 use mathlib.Core.Bool.{Bool, cond}
 use mathlib.Core.List.{List}
 use Prim.Native.Nat.{ℕ, ◌≤◌, ◌<◌}
@@ -111,9 +111,6 @@ write_positions-requires c =
 
 pub returns-in-Ok : goal.returns-in-Ok
 returns-in-Ok c = positions (goal.at.returns-in-Ok c).After-lay_words-nodes c.in-Ok.taken c.in-Ok.ensures c.write_positions.ensures
-
-pub write_members-requires : goal.write_members-requires
-write_members-requires c = few (fit (goal.at.write_members-requires c).After-lay_words-nodes)
 
 pub returns-in-Err : goal.returns-in-Err
 returns-in-Err c = members (goal.at.returns-in-Err c).After-lay_words-nodes c.in-Err.ensures c.write_members.ensures

@@ -2,7 +2,6 @@
 -- Assumes nothing.
 use Prim.Native.Nat.{ℕ}
 use mathlib.Core.Path.{◌≡◌, ap}
-use native.Mathlib.Omega.{arith}
 use lib.Bits.{bit_and}
 use lib.Count.{ones}
 use Rattle.placing.specs.Words.{rank}
@@ -12,9 +11,6 @@ use Rattle.placing.proofs.answer.rank_of.Goals.{After-labels_below-mask}
 rank_is : (c : After-labels_below-mask) → ones (bit_and c.args.word c.labels_below-mask.result) ≡ rank c.args.word c.args.label
 unfolding rank
 rank_is c = ap (λ (m : ℕ). ones (bit_and c.args.word m)) c.labels_below-mask.ensures
-
-pub overflow_cast-result : goal.overflow_cast-result
-overflow_cast-result c = omega (arith, rank_is c, c.requires)
 
 pub returns : goal.returns
 returns c = rank_is c

@@ -1,6 +1,6 @@
 -- `write_members` meets its contract: the bytes so far say which nodes are caught.
 -- Assumes nothing.
-use Prim.Native.Nat.{ℕ, ◌+◌, ◌<◌}
+use Prim.Native.Nat.{ℕ, ◌+◌}
 use mathlib.Core.Path.{◌≡◌, sym, ap, ◌∙◌, subst}
 use mathlib.Core.Bool.{Bool, cond, ◌&&◌, ◌||◌}
 use mathlib.Core.List.{List}

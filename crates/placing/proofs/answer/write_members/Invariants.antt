@@ -1,9 +1,8 @@
 -- `write_members` meets its contract: the bytes so far say which nodes are caught.
 -- Assumes nothing.
-use Prim.Native.Nat.{ℕ, ◌-◌}
+use Prim.Native.Nat.{ℕ}
 use mathlib.Core.Bool.{cond}
 use mathlib.Core.List.{List}
-use lib.ListN.{length}
 use Rattle.integers.proofs.Filling.{Filling}
 use Rattle.placing.specs.Words.{caught}
 use Rattle.placing.proofs.answer.write_members.Given as goal

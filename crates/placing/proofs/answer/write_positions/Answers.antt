@@ -1,9 +1,8 @@
 -- `write_positions` meets its contract: the bytes so far are ranks.
 -- Assumes nothing.
-use Prim.Native.Nat.{ℕ, ◌+◌, ◌<◌}
+use Prim.Native.Nat.{◌+◌}
 use mathlib.Core.Path.{sym, subst}
-use native.Mathlib.Omega.{arith}
-use lib.ListN.{length, set}
+use lib.ListN.{set}
 use Rattle.integers.proofs.Filling.{Filling, fill_none, fill_more}
 use Rattle.placing.proofs.answer.write_positions.Goals as goal
 use Rattle.placing.proofs.answer.write_positions.Invariants.{ranks}

@@ -1,8 +1,7 @@
 -- `write_positions` meets its contract: the bytes so far are ranks.
 -- Assumes nothing.
-use Prim.Native.Nat.{ℕ, ◌-◌}
+use Prim.Native.Nat.{ℕ}
 use mathlib.Core.List.{List}
-use lib.ListN.{length}
 use Rattle.integers.proofs.Filling.{Filling}
 use Rattle.placing.specs.Words.{entry, rank}
 use Rattle.placing.proofs.answer.write_positions.Given as goal

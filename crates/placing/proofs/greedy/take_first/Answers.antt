@@ -1,9 +1,8 @@
 -- `take_first` meets its contract: the nodes below u are placed, each as low as it can be.
-use Prim.Native.Nat.{ℕ, ◌+◌, ◌^◌, ◌<◌}
-use mathlib.Core.Path.{◌≡◌, refl, sym, ap, ◌∙◌, transport}
+use Prim.Native.Nat.{◌+◌, ◌^◌, ◌<◌}
+use mathlib.Core.Path.{refl, sym, ap, ◌∙◌, transport}
 use native.Mathlib.Omega.{arith}
 use lib.Bits.{bit_and, bit_xor, and_le_l}
-use lib.ListN.{set}
 use Rattle.placing.specs.Words.{entry}
 use Rattle.placing.proofs.Taking.{Taking, least_of, taking_none, taking_more, taking_last, taking_done}
 use Rattle.placing.proofs.greedy.take_first.Goals as goal

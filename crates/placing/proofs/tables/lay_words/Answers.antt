@@ -64,7 +64,7 @@ module _ (c : After-from) where
   row_is = let e : past - from turn ≡ (I turn).degree (u turn) = omega (arith, degree) in ap₂ (λ (d a : ℕ). take d (drop a (s turn))) e (from_is turn)
 
 pub loop-u-init : goal.loop-u-init
-loop-u-init c = record { laid = laid_none _ (words_none 64); size_sets = refl; size_own = refl }
+loop-u-init c = (refl, record { laid = laid_none _ (words_none 64); size_sets = refl; size_own = refl })
 
 pub offset_bounds-starts-u : goal.offset_bounds-starts-u
 offset_bounds-starts-u c = omega (arith, few c)
@@ -89,20 +89,20 @@ pub row_of-row-requires : goal.row_of-row-requires
 row_of-row-requires c =
     let b = (goal.at.row_of-row-requires c).After-from in subst (λ l. Labels (entry l) (length l)) (sym (row_is b)) (bytes_labels (sound (turn b)) (node (turn b)))
 
-pub offset_bounds-sets-u : goal.offset_bounds-sets-u
-offset_bounds-sets-u c = omega (arith, few (turn (goal.at.offset_bounds-sets-u c).After-from))
+pub offset_bounds-nodes-u : goal.offset_bounds-nodes-u
+offset_bounds-nodes-u c = omega (arith, few (turn (goal.at.offset_bounds-nodes-u c).After-from))
 
-pub bounds-sets-u : goal.bounds-sets-u
-bounds-sets-u c = few (turn (goal.at.bounds-sets-u c).After-from)
+pub bounds-nodes-u : goal.bounds-nodes-u
+bounds-nodes-u c = few (turn (goal.at.bounds-nodes-u c).After-from)
 
-pub bounds-own-u : goal.bounds-own-u
-bounds-own-u c = few (turn (goal.at.bounds-own-u c).After-from)
+pub bounds-nodes-u-in-loop-u : goal.bounds-nodes-u-in-loop-u
+bounds-nodes-u-in-loop-u c = few (turn (goal.at.bounds-nodes-u-in-loop-u c).After-from)
 
 pub loop-u-preserved : goal.loop-u-preserved
 loop-u-preserved c =
     let b = (goal.at.loop-u-preserved c).After-from in let t = turn b in
     let w = subst (λ l. Worded (entry l) (length l) c.row_of-row.result.word c.row_of-row.result.own) (row_is b) c.row_of-row.ensures in
-    laid_more (sound t) (node t) w t.loop-u.invariant
+    (t.loop-u.invariant.0, laid_more (sound t) (node t) w t.loop-u.invariant.1)
 
 -- all of them
 done : (t : After-loop-u) → t.loop-u.u ≡ t.args.n
@@ -110,8 +110,9 @@ done t = omega (arith, t.loop-u.auto.u-end, t.loop-u-test.false)
 
 pub returns : goal.returns
 returns c =
-    (refl, subst (λ n. Laid (instance_of c.args.sheet.now) n c.loop-u.sets c.loop-u.own) (done (goal.at.returns c).After-loop-u) c.loop-u.invariant.laid)
+    let (e, v) = c.loop-u.invariant in
+    (e, subst (λ n. Laid (instance_of c.args.sheet.now) n c.loop-u.nodes.1.0 c.loop-u.nodes.1.1.0) (done (goal.at.returns c).After-loop-u) v.laid)
 
-pub invariant_of-result : goal.invariant_of-result
-invariant_of-result c =
-    let proper = (readable c.args.sheet.now c.requires.0).proper in record { few = omega (arith, c.requires.1, proper.nodes_few); fit = c.loop-u.invariant.laid.fit }
+pub invariant_of-nodes : goal.invariant_of-nodes
+invariant_of-nodes c =
+    let (e, v) = c.loop-u.invariant in let proper = (readable c.args.sheet.now c.requires.0).proper in record { few = omega (arith, e, c.requires.1, proper.nodes_few); fit = v.laid.fit }

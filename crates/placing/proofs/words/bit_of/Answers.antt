@@ -2,8 +2,5 @@
 use Rattle.integers.proofs.Words.{one_shifted}
 use Rattle.placing.proofs.words.bit_of.Goals as goal
 
-pub overflow_shl-result : goal.overflow_shl-result
-overflow_shl-result c = c.requires
-
 pub returns : goal.returns
 returns c = one_shifted c.args.l c.requires

@@ -2,7 +2,6 @@
 use Prim.Native.Nat.{ℕ, ◌^◌}
 use mathlib.Core.Path.{◌≡◌, ap, ◌∙◌}
 use mathlib.Core.Bool.{◌||◌}
-use native.Mathlib.Omega.{arith}
 use lib.Bits.{bit_or, or_lt}
 use Rattle.integers.specs.Words.{bit}
 use Rattle.integers.proofs.Words.{bit_or_lem, bit_power, power_fits}

@@ -13,7 +13,7 @@ use Rattle.schedule.specs.declared.writer.Writer.{Writer}
 use Rattle.schedule.specs.Sweep.{Entry, each, falling, label_at, backward_at, rounding, sweep}
 use Rattle.schedule.specs.Writing.{Rows, Wrote, direction_number, forward_of, backward_by}
 use Rattle.schedule.proofs.WritingLaws.{wrote_append, wrote_as, room_left, room_for}
-use Rattle.schedule.proofs.IndexedSheet.{nodes_few_lem, nodes_inside, lower_indexed, higher_indexed, lower_rows, higher_rows, forward_nodes, backward_nodes}
+use Rattle.schedule.proofs.IndexedSheet.{nodes_few_lem, nodes_inside, higher_indexed, lower_rows, higher_rows, forward_nodes, backward_nodes}
 use Rattle.schedule.proofs.Written.{body, sweep_is}
 use Rattle.schedule.proofs.sweep.whole.Goals as goal
 use Rattle.schedule.proofs.sweep.whole.Goals.{After-edges_by-higher, in-Forward, in-Backward}
@@ -23,13 +23,13 @@ module _ (p : After-edges_by-higher) where
   abbrev I : Instance
   I = instance_of p.args.sheet.now
 
-  lower : Indexed I.high I.edge_count p.edges_by-lower.result
-  lower = lower_indexed p.requires.swept p.edges_by-lower.ensures
+  lower : Indexed I.high I.edge_count p.args.lower.now
+  lower = p.requires.indexed
 
   higher : Indexed I.low I.edge_count p.edges_by-higher.result
   higher = higher_indexed p.requires.swept p.edges_by-higher.ensures
 
-  rows : Rows p.edges_by-lower.result 256 × Rows p.edges_by-higher.result 256
+  rows : Rows p.args.lower.now 256 × Rows p.edges_by-higher.result 256
   rows = (lower_rows p.requires.swept lower higher, higher_rows p.requires.swept lower higher)
 
   size : length (sweep I (direction_number p.args.direction)) ≡ length (body I p.args.direction) + 1
@@ -77,12 +77,12 @@ backward_nodes-requires-clause-room c =
 
 -- all but the rounding is written
 filled_forward : (p : After-edges_by-higher) {v : Writer} → p.args.direction ≡ Forward
-    → Wrote p.args.w.now (each (forward_of p.args.sheet.now p.args.counts.nodes p.edges_by-lower.result p.edges_by-higher.result) (range 0 p.args.counts.nodes)) v
+    → Wrote p.args.w.now (each (forward_of p.args.sheet.now p.args.counts.nodes p.args.lower.now p.edges_by-higher.result) (range 0 p.args.counts.nodes)) v
     → Wrote p.args.w.now (body (I p) p.args.direction) v
 filled_forward p e x = wrote_as x (forward_nodes p.requires.swept (lower p) (higher p) ∙ sym (ap (body (I p)) e))
 
 filled_backward : (p : After-edges_by-higher) {u v : Writer} → p.args.direction ≡ Backward → Wrote p.args.w.now (labels p) u
-    → Wrote u (each (backward_by p.edges_by-lower.result p.edges_by-higher.result) (falling p.args.counts.nodes)) v → Wrote p.args.w.now (body (I p) p.args.direction) v
+    → Wrote u (each (backward_by p.args.lower.now p.edges_by-higher.result) (falling p.args.counts.nodes)) v → Wrote p.args.w.now (body (I p) p.args.direction) v
 filled_backward p e x y = wrote_as (wrote_append x (wrote_as y (backward_nodes p.requires.swept (lower p) (higher p)))) (sym (ap (body (I p)) e))
 
 pub put-requires : goal.put-requires

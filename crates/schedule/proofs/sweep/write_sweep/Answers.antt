@@ -15,7 +15,7 @@ use Rattle.schedule.specs.Writing.{Swept, direction_number}
 use Rattle.schedule.proofs.Lengths.{sweep-length}
 use Rattle.schedule.proofs.Written.{direction_known, direction_unknown, unread, unknown, unfit, swept}
 use Rattle.schedule.proofs.WritingLaws.{length-bytes, wrote_all}
-use Rattle.schedule.proofs.IndexedSheet.{handed}
+use Rattle.schedule.proofs.IndexedSheet.{handed, lower_indexed}
 use Rattle.schedule.proofs.sweep.write_sweep.Goals as goal
 use Rattle.schedule.proofs.sweep.write_sweep.Goals.{After-counts_of-counts, Else-layout-ne-NONE}
 
@@ -62,6 +62,13 @@ returns-then-out-length_of c =
 
 pub whole-requires-clause-swept : goal.whole-requires-clause-swept
 whole-requires-clause-swept c = counted (goal.at.whole-requires-clause-swept c).After-counts_of-counts
+
+pub whole-requires-clause-indexed : goal.whole-requires-clause-indexed
+whole-requires-clause-indexed c =
+    lower_indexed (counted (goal.at.whole-requires-clause-indexed c).After-counts_of-counts) c.edges_by-lower.ensures
+
+pub edges_by-lower-requires : goal.edges_by-lower-requires
+edges_by-lower-requires c = counted (goal.at.edges_by-lower-requires c).After-counts_of-counts
 
 pub whole-requires-clause-room : goal.whole-requires-clause-room
 whole-requires-clause-room c =

@@ -4,5 +4,5 @@ use Rattle.index.specs.Index.{Few}
 use Rattle.index.proofs.Indexed.{index_few}
 use Rattle.index.proofs.table.Index.of.Goals as goal
 
-pub invariant_of-result : goal.invariant_of-result
-invariant_of-result c = subst Few (sym c.index_into.ensures) (index_few _ _)
+pub invariant_of-index : goal.invariant_of-index
+invariant_of-index c = subst Few (sym c.index_into.ensures) (index_few _ _)

@@ -1,6 +1,4 @@
 -- `chain` meets its contract: a free label is taken at once, or met by the search.
-use native.Mathlib.Omega.{arith}
-use mathlib.Core.Path.{refl}
 use Rattle.placing.proofs.Moving.{once_small, once_free, once_has, once_rooted}
 use Rattle.placing.proofs.seats.Seats.chain.Goals as goal
 

@@ -1,5 +1,5 @@
 -- `lower` meets its contract: each turn is one of `Trying`.
-use Prim.Native.Nat.{ℕ, ◌+◌, ◌^◌, ◌≤◌, ◌<◌}
+use Prim.Native.Nat.{ℕ, ◌≤◌, ◌<◌}
 use mathlib.Core.Path.{◌≡◌, sym, ap, ap₂, ◌∙◌, subst, transport}
 use mathlib.Core.Bool.{true}
 use mathlib.Core.List.{List}

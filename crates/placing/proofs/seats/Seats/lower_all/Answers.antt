@@ -1,5 +1,5 @@
 -- `lower_all` meets its contract: the nodes below u are where they are to be.
-use Prim.Native.Nat.{ℕ, ◌+◌, ◌≤◌, ◌<◌}
+use Prim.Native.Nat.{◌+◌, ◌<◌}
 use mathlib.Core.Path.{refl, sym, ap, ◌∙◌, subst}
 use native.Mathlib.Omega.{arith}
 use Rattle.assignment.specs.First.{First}

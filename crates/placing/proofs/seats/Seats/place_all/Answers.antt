@@ -1,9 +1,9 @@
 -- `place_all` meets its contract: the nodes below u are seated.
-use Prim.Native.Nat.{ℕ, ◌+◌, ◌≤◌, ◌<◌}
+use Prim.Native.Nat.{◌+◌, ◌<◌}
 use mathlib.Core.Path.{◌≡◌, refl, sym, ap, ◌∙◌, subst}
 use native.Mathlib.Omega.{arith}
 use Rattle.integers.proofs.Words.{bit_zero}
-use Rattle.placing.specs.Words.{entry, Seated, Blocked, rows_of, caught}
+use Rattle.placing.specs.Words.{Seated, Blocked, rows_of, caught}
 use Rattle.placing.proofs.Seating.{seated_own, seated_unplaced, seated_more, seated_blocked}
 use Rattle.placing.proofs.seats.Seats.place_all.Goals as goal
 use Rattle.placing.proofs.seats.Seats.place_all.Goals.{In-loop-u}
@@ -45,9 +45,3 @@ returns-clause-answer c =
     let v = c.loop-u.invariant in
     let e : c.loop-u.u ≡ c.args.self.now.nodes.now.count = omega (arith, c.loop-u-test.false, c.loop-u.auto.u-end) in
     subst (λ m. Seated c.args.self.now.nodes.now.own 0 m c.loop-u.self.taken) e (subst (λ n. Seated n.own 0 c.loop-u.u c.loop-u.self.taken) v.0 v.1)
-
-pub returns-clause-same : goal.returns-clause-same
-returns-clause-same c = c.loop-u.invariant.0
-
-pub returns-in-Err-clause-same : goal.returns-in-Err-clause-same
-returns-in-Err-clause-same c = c.in-Err.ensures.same ∙ c.loop-u.invariant.0

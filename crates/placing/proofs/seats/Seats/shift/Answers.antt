@@ -1,13 +1,10 @@
 -- `shift` meets its contract: each turn is one of `Moving`.
-use Prim.Native.Nat.{ℕ, ◌-◌, ◌≤◌, ◌<◌}
+use Prim.Native.Nat.{ℕ}
 use mathlib.Core.Path.{◌≡◌, refl, sym, ap, ap₂, ◌∙◌, subst}
-use mathlib.Core.Bool.{true}
 use mathlib.Core.List.{List}
 use native.Mathlib.Omega.{arith}
 use lib.ListN.{set}
-use lib.Seq.{get_or-set_same}
-use Rattle.integers.specs.Words.{bit}
-use Rattle.placing.specs.Words.{entry, Joined, Linked}
+use Rattle.placing.specs.Words.{entry, Linked}
 use Rattle.placing.proofs.Moving.{moving_none, moving_small, moving_past, moving_more, moving_done, from_small, holder_few, holder_has, still_free, left_unplaced, root_has}
 use Rattle.placing.proofs.seats.Seats.shift.Goals as goal
 
@@ -60,9 +57,6 @@ give-requires-2 c =
     let v = c.loop-i.invariant.1 start before a m in
     let z : c.loop-i.i ≡ 0 = omega (arith, c.loop-i-test.false) in
     (a.node, moving_small a m v, v.unplaced, v.here, rw (c.loop-i.invariant.0) (root_has a m v z))
-
-pub returns-clause-same : goal.returns-clause-same
-returns-clause-same c = c.give-2.ensures.same ∙ c.loop-i.invariant.0
 
 pub returns-clause-placed : goal.returns-clause-placed
 returns-clause-placed c start before a m = moving_done a m (c.loop-i.invariant.1 start before a m) (omega (arith, c.loop-i-test.false)) c.give-2.ensures.taken

@@ -1,13 +1,12 @@
 -- `put` meets its contract: five bytes more are written.
-use mathlib.Core.Path.{◌≡◌, refl, sym, ap, ◌∙◌}
+use mathlib.Core.Path.{refl, ap, ◌∙◌}
 use mathlib.Core.List.{List, ◌++◌}
-use Prim.Native.Nat.{ℕ, ◌+◌, ◌-◌}
+use Prim.Native.Nat.{ℕ}
 use native.Mathlib.Omega.{arith}
-use borrow.Rule.Slice.PartMut.{same_len_mid, mid_len}
-use lib.ListN.{length, take}
-use Rattle.std.proofs.lemmas.Slice.{take-put_mid}
+use lib.ListN.{get_or, take, length-set}
 use Rattle.schedule.specs.Sweep.{bytes}
-use Rattle.schedule.proofs.NumberLaws.{five_are}
+use Rattle.schedule.proofs.NumberLaws.{record_bytes}
+use Rattle.schedule.proofs.WritingLaws.{five}
 use Rattle.schedule.proofs.writer.Writer.put.Goals as goal
 
 pub returns : goal.returns
@@ -15,12 +14,11 @@ unfolding bytes
 returns c =
     let a = c.args in
     let w = a.self.now in
-    let five = c.copy_from_slice.new.self in
-    let n : length five ≡ w.at + 5 - w.at = ap length c.copy_from_slice.ensures.after ∙ omega arith in
-    let e = c.copy_from_slice.ensures.after ∙ five_are a.kind a.node a.index a.share (omega arith) c.to_le_bytes.ensures in
+    let b = c.to_le_bytes.result in
     record {
       same_reference = refl;
-      size = same_len_mid w.at (w.at + 5 - w.at) w.out.now five (n ∙ sym (mid_len w.at (w.at + 5) w.out.now (omega arith)));
-      place = omega arith;
-      content = take-put_mid w.at (w.at + 5 - w.at) w.out.now five (w.at + 5) (omega arith) (omega arith) ∙ ap (λ (l : List ℕ). take w.at w.out.now ++ l) e;
+      size = simp length-set;
+      place = refl;
+      content = five w.out.now w.at _ a.node (get_or b 0 0) (get_or b 1 0) a.share (omega arith)
+          ∙ ap (λ (l : List ℕ). take w.at w.out.now ++ l) (record_bytes a.kind a.node a.index a.share (omega arith) c.to_le_bytes.ensures);
     }

@@ -3,14 +3,15 @@ use Prim.Native.Nat.{ℕ, ◌+◌, ◌<◌}
 use mathlib.Core.Path.{◌≡◌, sym, subst}
 use mathlib.Core.Bool.{true}
 use native.Mathlib.Omega.{arith}
+use Rattle.std.proofs.Common.{rules}
 use lib.Count.{count_trailing_zeros}
 use lib.ListN.{set}
 use Rattle.integers.specs.Words.{bit, Words}
 use Rattle.integers.proofs.Places.{left_true}
 use Rattle.placing.specs.Words.{Met}
 use Rattle.placing.proofs.Searching.{queue, newly, layers_none, in_layer, queue_empty, searching_none, searching_met, searching_ended, turn_small, turn_few, turn_same, turn_next, turn_last}
-use Rattle.placing.proofs.search.search.Goals as goal
-use Rattle.placing.proofs.search.search.Goals.{After-lowest-l, At-loop-layer}
+use Rattle.placing.proofs.seats.Seats.search.Goals as goal
+use Rattle.placing.proofs.seats.Seats.search.Goals.{After-lowest-l, At-loop-layer}
 
 -- inside the loop: the label of the turn
 module _ (c : After-lowest-l) where
@@ -20,8 +21,8 @@ module _ (c : After-lowest-l) where
   abbrev l : ℕ
   l = c.lowest-l.result
 
-  abbrev fits : Words head.args.reach.now
-  fits = head.requires.0
+  abbrev fits : Words head.args.self.now.reach
+  fits = head.args.self.now.linked.fit_reach
 
   abbrev some : head.loop-layer.layer ≡ 0 → ⊥
   some = c.loop-layer-test.true
@@ -40,13 +41,13 @@ module _ (c : After-lowest-l) where
 
 pub loop-layer-init : goal.loop-layer-init
 loop-layer-init c =
-    (searching_none c.requires.1 c.requires.2 c.ranges.start.fits c.requires.4 c.requires.3 c.ranges.before.fits, layers_none c.args.start c.ranges.start.fits)
+    (searching_none (search rules) (search rules) c.ranges.start.fits c.requires.1 c.requires.0 c.ranges.before.fits, layers_none c.args.start c.ranges.start.fits)
 
 pub returns-then-met-ne0 : goal.returns-then-met-ne0
 returns-then-met-ne0 c =
     let t = (goal.at.returns-then-met-ne0 c).After-lowest-l in
     let h = (head t).loop-layer in
-    subst (Met (head t).args.reach.now (head t).args.free (head t).args.start (head t).args.before (set h.steps.by h.count (l t)) (set h.steps.words h.count (newly (head t).args.reach.now h.seen (l t))) (h.count + 1))
+    subst (Met (head t).args.self.now.reach (head t).args.self.now.free (head t).args.start (head t).args.before (set h.steps.by h.count (l t)) (set h.steps.words h.count (newly (head t).args.self.now.reach h.seen (l t))) (h.count + 1))
     (sym c.lowest-label.ensures) (searching_met h.invariant.0 (l t) (left t) (fits t) c.if-met-ne0.true)
 
 pub returns-then-all-eq0 : goal.returns-then-all-eq0
@@ -64,35 +65,14 @@ loop-layer-preserved c =
 pub returns : goal.returns
 returns c = let h = c.loop-layer.invariant in searching_ended h.0 (queue_empty h.1 c.loop-layer-test.false)
 
-pub lowest-l-requires : goal.lowest-l-requires
-lowest-l-requires c = c.loop-layer-test.true
-
-pub offset_bounds-reach-l : goal.offset_bounds-reach-l
-offset_bounds-reach-l c = omega (arith, small c)
-
-pub bounds-reach-l : goal.bounds-reach-l
-bounds-reach-l c = small (goal.at.bounds-reach-l c).After-lowest-l
-
-pub overflow_cast-steps : goal.overflow_cast-steps
-overflow_cast-steps c = omega (arith, small (goal.at.overflow_cast-steps c).After-lowest-l)
-
-pub bounds-steps-count : goal.bounds-steps-count
-bounds-steps-count c = few (goal.at.bounds-steps-count c).After-lowest-l
-
-pub offset_bounds-steps-count : goal.offset_bounds-steps-count
-offset_bounds-steps-count c = omega (arith, few (goal.at.offset_bounds-steps-count c).After-lowest-l)
-
-pub bounds-steps-count-in-loop-layer : goal.bounds-steps-count-in-loop-layer
-bounds-steps-count-in-loop-layer c = few (goal.at.bounds-steps-count-in-loop-layer c).After-lowest-l
-
-pub overflow_add-count : goal.overflow_add-count
-overflow_add-count c = omega (arith, few (goal.at.overflow_add-count c).After-lowest-l)
-
-pub overflow_sub-left : goal.overflow_sub-left
-overflow_sub-left c = omega (arith, some (goal.at.overflow_sub-left c).After-lowest-l)
-
 pub loop-layer-smaller-then-left-eq0 : goal.loop-layer-smaller-then-left-eq0
 loop-layer-smaller-then-left-eq0 c = omega (arith, few (goal.at.loop-layer-smaller-then-left-eq0 c).After-lowest-l)
 
 pub loop-layer-smaller : goal.loop-layer-smaller
 loop-layer-smaller c = omega (arith, few (goal.at.loop-layer-smaller c).After-lowest-l)
+
+pub bounds-steps-count : goal.bounds-steps-count
+bounds-steps-count c = few (goal.at.bounds-steps-count c).After-lowest-l
+
+pub bounds-steps-count-in-loop-layer : goal.bounds-steps-count-in-loop-layer
+bounds-steps-count-in-loop-layer c = few (goal.at.bounds-steps-count-in-loop-layer c).After-lowest-l
