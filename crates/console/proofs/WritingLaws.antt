@@ -10,7 +10,7 @@ use borrow.Author.Tests.{lt-ltb, le-ltb}
 use Rattle.integers.proofs.Places.{if-true, if-false}
 use Rattle.console.specs.declared.text.Text.{Text}
 use Rattle.console.specs.Output.{outputs, output_of}
-use Rattle.console.specs.Writing.{Wrote, Room}
+use Rattle.console.specs.Writing.{Wrote}
 
 pub wrote_none : (t : Text) → Wrote t [] t
 wrote_none t = record { same_reference = refl; size = refl; place = omega arith; content = sym (append-nil _); rest = refl }
@@ -34,10 +34,6 @@ module _ {t : Text} {x : List ℕ} {t' : Text} (p : Wrote t x t') where
 
   pub wrote_as : {y : List ℕ} → x ≡ y → Wrote t y t'
   wrote_as e = subst (λ (l : List ℕ). Wrote t l t') e p
-
-  -- of the room for n bytes what is left
-  pub room_left : {n : ℕ} (m : ℕ) → Room t n → length x + m ≤ n → Room t' m
-  room_left m r h = record { fits = omega (arith, p.place, p.size, r.fits) }
 
 -- from the start of a buffer that is long enough
 pub put_out : {x : List ℕ} {t t' : Text} → t.len ≡ 0 → 256 ≤ length t.out.now → Wrote t x t' → outputs t'.out.now t'.len ≡ output_of x t.out.now

@@ -74,7 +74,7 @@ impl<'a> Case<'a> {
     // Resize: a buffer and its length.
     fn resize(&mut self, reader: &mut Reader) -> Option<bool> {
         let buffer = Buffer::from(reader.byte());
-        let length = reader.word() as usize;
+        let length = reader.size();
         let answers = reader.answers();
         let mut buffers = self.buffers.take()?;
         buffers.resize(buffer, length)?;
@@ -86,7 +86,7 @@ impl<'a> Case<'a> {
     // Poke: a buffer, a place in it and a value.
     fn poke(&mut self, reader: &mut Reader) -> Option<bool> {
         let buffer = Buffer::from(reader.byte());
-        let place = reader.word() as usize;
+        let place = reader.size();
         let value = reader.array();
         let answers = reader.answers();
         let buffers = self.buffers.as_mut()?;
@@ -97,7 +97,7 @@ impl<'a> Case<'a> {
 
 // Show edge: the refusal and the length of the part, and the part as the output.
 fn show(sheet: &[u8], reader: &mut Reader) -> Option<bool> {
-    let edge = reader.word() as usize;
+    let edge = reader.size();
     let answers = reader.answers();
     let refusal = instance::edge_refusal(sheet, edge);
     let prices = instance::edge_prices(sheet, edge);
@@ -109,7 +109,7 @@ fn show(sheet: &[u8], reader: &mut Reader) -> Option<bool> {
 // and where the lent buffer is longer than there is room for.
 fn sweep(sheet: &[u8], reader: &mut Reader) -> Option<bool> {
     let direction = reader.word();
-    let length = reader.word() as usize;
+    let length = reader.size();
     let answers = reader.answers();
     let mut out = [0xA5u8; 512];
     let lent = out.get_mut(..length)?;
@@ -121,7 +121,7 @@ fn sweep(sheet: &[u8], reader: &mut Reader) -> Option<bool> {
 // which set of nodes they name, and the file has no hash of them. Skipped where the lent buffer is longer than there is
 // room for.
 fn place(sheet: &[u8], reader: &mut Reader) -> Option<bool> {
-    let length = reader.word() as usize;
+    let length = reader.size();
     let answers = reader.answers();
     let mut out = [0xA5u8; 64];
     let lent = out.get_mut(..length)?;

@@ -41,9 +41,14 @@ impl<'a> Reader<'a> {
         u64::from_le_bytes(self.array())
     }
 
+    // A word that is a length, a place or the number of an edge.
+    pub fn size(&mut self) -> usize {
+        self.word() as usize
+    }
+
     // A field of bytes: its length, and then that many.
     pub fn field(&mut self) -> Option<&'a [u8]> {
-        let length = self.word() as usize;
+        let length = self.size();
         let rest = self.rest?;
         self.rest = rest.get(length..);
         rest.get(..length)
