@@ -17,6 +17,22 @@ module _ (p : In-loop-u) where
   inside : place < p.args.sheet.now.positions
   inside = place_in p.args.sheet.now p.args.x.now p.loop-u-test.true (p.requires.within p.loop-u.u (node_there p.args.sheet.now p.loop-u-test.true))
 
+-- the price that was read
+module _ (c : After-node_price-sum) where
+  abbrev turn : In-loop-u
+  turn = (goal.at.After-node_price-sum c).In-loop-u
+
+  price : c.node_price-sum.result ≡ (instance_of c.args.sheet.now.bytes.now).node_price (chosen (instance_of c.args.sheet.now.bytes.now) c.args.x.now c.loop-u.u)
+  price =
+      c.node_price-sum.ensures
+      ∙ ap (instance_of c.args.sheet.now.bytes.now).node_price (ap (λ (z : ℕ). get_or c.args.sheet.now.starts c.loop-u.u 0 + z) c.from.ensures ∙ place_is c.args.sheet.now c.args.x.now c.loop-u-test.true)
+
+  small : nat_abs c.node_price-sum.result ≤ 1_000_000
+  small = rw (price, sym (place_is c.args.sheet.now c.args.x.now c.loop-u-test.true)) ((proper c.args.sheet.now).node_priced (place turn) (omega (arith, inside turn, positions_is c.args.sheet.now)))
+
+  fits : SFits w64 (to_z w64 c.loop-u.sum-bits +ℤ c.node_price-sum.result)
+  fits = added_fits c.loop-u.invariant c.node_price-sum.result small (omega arith) (omega (arith, c.loop-u-test.true, nodes_few c.args.sheet.now))
+
 pub loop-u-init : goal.loop-u-init
 loop-u-init c = added_none _ _
 
@@ -29,5 +45,20 @@ bounds-sheet-u c = omega (arith, c.loop-u-test.true, nodes_few c.args.sheet.now)
 pub bounds-x-u : goal.bounds-x-u
 bounds-x-u c = omega (arith, c.loop-u-test.true, c.requires.size, nodes_is c.args.sheet.now)
 
+pub overflow_add-sheet : goal.overflow_add-sheet
+overflow_add-sheet c = omega (arith, inside (goal.at.overflow_add-sheet c).In-loop-u, positions_few c.args.sheet.now, c.from.ensures)
+
+pub node_price-sum-requires : goal.node_price-sum-requires
+node_price-sum-requires c = omega (arith, inside (goal.at.node_price-sum-requires c).In-loop-u, c.from.ensures)
+
+pub overflow_add-sum : goal.overflow_add-sum
+overflow_add-sum c = rw (same c.node_price-sum.result c.node_price-sum.type_inv) (fits c)
+
+pub loop-u-preserved : goal.loop-u-preserved
+loop-u-preserved c =
+    rw (same c.node_price-sum.result c.node_price-sum.type_inv, to_z-of_z (fits c)) (added_more c.loop-u.invariant c.node_price-sum.result (small c) (price c))
+
 pub returns : goal.returns
-returns c = ?
+returns c =
+    let d = added_all c.loop-u.invariant (omega arith) c.loop-u-test.false in
+    (d.0, omega (arith, d.1, nodes_few c.args.sheet.now))
