@@ -57,7 +57,7 @@ returns-then-not-lengths_agree c =
     ∙ ap (λ (s : List ℕ). open_of s b) (same (goal.at.returns-then-not-lengths_agree c).In_ok-sheet)
 
 pub fill_prices-requires : goal.fill_prices-requires
-fill_prices-requires c = nodes_inside c
+fill_prices-requires c = nodes_inside (goal.at.fill_prices-requires c).Else-not-lengths_agree
 
 pub fill_prices-requires-2 : goal.fill_prices-requires-2
 fill_prices-requires-2 c = edges_inside (goal.at.fill_prices-requires-2 c).Else-not-lengths_agree
@@ -67,5 +67,5 @@ returns c =
     let p = (goal.at.returns c).Else-not-lengths_agree in
     let x = c.in_ok-sheet.sheet in
     let b = started (goal.at.returns c).Start in
-    ap (λ (b : Buffers). opens b 0) (filled_opened x.bytes.now b x.placed.0 x.placed.2 (agreed p) c.fill_prices.ensures c.fill.ensures.after c.fill_prices-2.ensures c.fill-2.ensures.after)
+    ap (λ (b : Buffers). opens b 0) (filled_opened x.bytes.now b x.placed.0 x.placed.2 (agreed p) c.fill_prices.ensures (c.fill.ensures.after (λ y e. e)) c.fill_prices-2.ensures (c.fill-2.ensures.after (λ y e. e)))
     ∙ open_fills x.bytes.now b x.readable (agreed p) ∙ ap (λ (s : List ℕ). open_of s b) (same (goal.at.returns c).In_ok-sheet)
