@@ -1,5 +1,5 @@
 -- `edge_part` meets its contract: after e turns the sum is that of the first e edges.
-use Rattle.std.proofs.Common.{◌≡◌, ◌≤◌, ◌+ℤ◌, nat_abs, ap, ◌∙◌, arith, to_z-of_z, w64, SFits, to_z}
+use Rattle.std.proofs.Common.{◌≤◌, ◌+ℤ◌, nat_abs, ap, ◌∙◌, arith, to_z-of_z, w64, SFits, to_z}
 use Rattle.integers.proofs.Bits.{same}
 use Rattle.instance.specs.Sheet.{instance_of}
 use Rattle.instance.proofs.Sheets.{proper, edges_few, cells_is}
