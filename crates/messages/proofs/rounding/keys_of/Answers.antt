@@ -13,7 +13,7 @@ use Rattle.messages.specs.Rounded.{added, edge_row}
 use Rattle.messages.proofs.RivalLaws.{row_keyed}
 use Rattle.messages.proofs.KeyLaws.{zeros_within, keys_over, keys_length, keys_small, keys_first, keys_next, keys_all, row_room}
 use Rattle.messages.proofs.rounding.keys_of.Goals as goal
-use Rattle.messages.proofs.rounding.keys_of.Goals.{After-degree, At-loop-e, In-loop-e, Start}
+use Rattle.messages.proofs.rounding.keys_of.Goals.{After-degree, After-from, At-loop-e, Start}
 
 -- the node at entry
 module _ (q : Start) where
@@ -84,18 +84,18 @@ module _ (t : At-loop-e) where
       (omega (arith, length-take t.loop-e.e-index row, t.row-e-items.ensures.few)))
 
 -- an edge of the row
-module _ (p : In-loop-e) where
+module _ (p : After-from) where
   abbrev head : At-loop-e
-  head = (goal.at.In-loop-e p).At-loop-e
+  head = (goal.at.After-from p).At-loop-e
 
   abbrev q : Start
   q = start head
 
-  abbrev e : ℕ
-  e = get_or (row head) head.loop-e.e-index 0
+  keyed : ((I q).high p.from.result ≡ u q) × (p.from.result < (I q).edge_count)
+  keyed = rw p.from.ensures (row_keyed q.args.run.now.lowered (low q) head.row-e-items.ensures.things p.loop-e-test.true)
 
-  edge : ((I q).high e ≡ u q) × (e < (s q).edges)
-  edge = let k = row_keyed q.args.run.now.lowered (low q) head.row-e-items.ensures.things p.loop-e-test.true in (k.0, omega (arith, k.1, sheet.edges_is (s q)))
+  exists : p.from.result < (s q).edges
+  exists = omega (arith, keyed.1, sheet.edges_is (s q))
 
 pub offset_bounds-sheet-u : goal.offset_bounds-sheet-u
 offset_bounds-sheet-u c = omega (arith, low c)
@@ -127,13 +127,20 @@ loop-e-init c =
     c.add_cells.ensures ∙ ap (added (replicate 16 (pos 0))) (read p) ∙ keys_first (I q) (nodes q) (edges q) (x q) (u q) (inside q)
 
 pub add_edge-requires-clause-placed : goal.add_edge-requires-clause-placed
-add_edge-requires-clause-placed c = ?
+add_edge-requires-clause-placed c =
+    let p = (goal.at.add_edge-requires-clause-placed c).After-from in (c.requires.u_lt_nodes.1, exists p, (keyed p).0)
 
 pub add_edge-requires-clause-keys_len : goal.add_edge-requires-clause-keys_len
-add_edge-requires-clause-keys_len c = (long (goal.at.add_edge-requires-clause-keys_len c).At-loop-e, small (goal.at.add_edge-requires-clause-keys_len c).At-loop-e)
+add_edge-requires-clause-keys_len c =
+    let h = (goal.at.add_edge-requires-clause-keys_len c).At-loop-e in (long h, small h)
 
 pub loop-e-preserved : goal.loop-e-preserved
-loop-e-preserved c = ?
+loop-e-preserved c =
+    let p = (goal.at.loop-e-preserved c).After-from in let h = head p in let r = q p in
+    let e = p.from.result in
+    c.add_edge.ensures ∙ ap (λ (k : List ℤ). added k (edge_row (I r) (edges r) (x r) e)) h.loop-e.invariant
+    ∙ keys_next (I r) (nodes r) (edges r) (x r) (u r) (sofar h) e (keyed p).0 (row_room (s r) r.requires.round_asked.edge_costs (x r) r.requires.u_lt_nodes.1 (exists p) (keyed p).0)
+    ∙ ap (keys_over (I r) (nodes r) (edges r) (x r) (u r)) (ap (λ (d : ℕ). sofar h ++ d ∷ []) p.from.ensures ∙ sym (take_more (row h) h.loop-e.e-index 0 p.loop-e-test.true))
 
 pub returns : goal.returns
 returns c =
