@@ -31,22 +31,16 @@ rival p =
 pub row-places-requires : goal.row-places-requires
 row-places-requires c = row c
 
-pub offset_bounds-labels-place : goal.offset_bounds-labels-place
-offset_bounds-labels-place c = omega (arith, c.requires.place.0, c.requires.node_fits.size)
-
-pub bounds-labels-place : goal.bounds-labels-place
-bounds-labels-place c = omega (arith, c.requires.place.0, c.requires.node_fits.size)
-
 pub label_rival-requires : goal.label_rival-requires
 label_rival-requires c =
     λ j h. omega (arith, (row_keyed c.args.run.now.held (row (goal.at.label_rival-requires c).After-label) c.row-places.ensures.things h).1, c.requires.node_fits.size)
 
-pub share_of-requires : goal.share_of-requires
-share_of-requires c =
+pub share_of-requires-clause-cost_bound : goal.share_of-requires-clause-cost_bound
+share_of-requires-clause-cost_bound c =
     let a = c.args in
     let l = a.labels.now in
     let h = c.requires.node_fits.range in
-    record { le_r = c.requires.place.1; cost_bound = rw (to_z-of_z {w = w64} {z = get_or l a.place (pos 0)} (search rules), same c.label_rival.result c.label_rival.type_inv, rival c) (h a.place, rival_within (instance_of a.run.now.sheet.bytes.now) l h a.place) }
+    rw (to_z-of_z {w = w64} {z = get_or l a.place (pos 0)} (search rules), same c.label_rival.result c.label_rival.type_inv, rival c) (h a.place, rival_within (instance_of a.run.now.sheet.bytes.now) l h a.place)
 
 pub returns : goal.returns
 returns c =

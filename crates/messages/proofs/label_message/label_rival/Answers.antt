@@ -10,9 +10,6 @@ use Rattle.messages.proofs.label_message.label_rival.Goals as goal
 pub loop-place-init : goal.loop-place-init
 loop-place-init c = rival_none (λ j. get_or c.args.labels.now j (pos 0)) c.args.own
 
-pub meet-best-requires : goal.meet-best-requires
-meet-best-requires c = rw c.from.ensures (c.requires c.loop-place.place-index c.loop-place-test.true)
-
 pub loop-place-preserved : goal.loop-place-preserved
 loop-place-preserved c =
     let a = c.args in
@@ -23,8 +20,3 @@ loop-place-preserved c =
     ∙ rival_next f a.own (take k a.places.now) (get_or a.places.now k 0)
     ∙ ap (rival_in f a.own) (sym (take_more a.places.now k 0 c.loop-place-test.true))
 
-pub returns : goal.returns
-returns c =
-    let a = c.args in
-    let f : ℕ → ℤ = (λ j. get_or a.labels.now j (pos 0)) in
-    c.loop-place.invariant ∙ ap (rival_in f a.own) (take_all c.loop-place.place-index a.places.now c.loop-place-test.false)

@@ -31,14 +31,6 @@ offset_bounds-nodes-at c = omega (arith, row c)
 pub slice_bounds-amount_of-end : goal.slice_bounds-amount_of-end
 slice_bounds-amount_of-end c = row c
 
-pub amount_of-requires : goal.amount_of-requires
-amount_of-requires c =
-    let q = start (goal.at.amount_of-requires c).After-degree in
-    let l = q.args.nodes.now in
-    let d = (instance_of q.args.sheet.now.bytes.now).degree q.args.step.node in
-    rw (size (goal.at.amount_of-requires c).After-degree)
-    record { k_in_bounds = omega (arith, q.requires.place_asked.position, length_part l q.args.at d (row_in q.requires.place_asked q.requires.node_fits)); le_share = q.requires.place_asked.some; within = within_part cost_limit q.args.at d l q.requires.node_fits.range }
-
 pub returns : goal.returns
 returns c =
     let q = start (goal.at.returns c).After-degree in

@@ -81,13 +81,6 @@ offset_bounds-edges-row c = omega (arith, small (goal.at.offset_bounds-edges-row
 pub slice_bounds-add_cells-end : goal.slice_bounds-add_cells-end
 slice_bounds-add_cells-end c = room (goal.at.slice_bounds-add_cells-end c).After-from
 
-pub add_cells-requires : goal.add_cells-requires
-add_cells-requires c =
-    let p = (goal.at.add_cells-requires c).After-from in let q = start p in
-    let edges = q.args.edges.now in
-    let z : from p + long p - from p ≡ long p = omega arith in
-    record { row_in_bounds = omega (arith, z, length_part edges (from p) (from p + long p - from p) (omega (arith, room p)), (degree p).degree-degree.ensures.2, q.requires.keys_len.0); within = q.requires.keys_len.1; within_2 = within_part cost_limit (from p) (from p + long p - from p) edges q.requires.edge_fits.range }
-
 pub returns : goal.returns
 returns c =
     let p = (goal.at.returns c).After-from in c.add_cells.ensures ∙ ap (added (start p).args.keys.now) (read p)

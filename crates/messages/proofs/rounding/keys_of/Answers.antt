@@ -113,11 +113,6 @@ offset_bounds-nodes-start c =
 pub slice_bounds-add_cells-end-2 : goal.slice_bounds-add_cells-end-2
 slice_bounds-add_cells-end-2 c = room (goal.at.slice_bounds-add_cells-end-2 c).After-degree
 
-pub add_cells-requires : goal.add_cells-requires
-add_cells-requires c =
-    let p = (goal.at.add_cells-requires c).After-degree in let q = entry p in
-    record { row_in_bounds = rw (read p, length_part (nodes q) (first (I q) (u q)) ((I q).degree (u q)) (inside q)) (sheet.degree_few (s q) q.requires.u_lt_nodes.0); within = λ i. zeros_within i; within_2 = within_part cost_limit (begin p) (begin p + c.degree.result - begin p) (nodes q) q.requires.round_asked.node_costs.range }
-
 pub row-e-items-requires : goal.row-e-items-requires
 row-e-items-requires c = low (goal.at.row-e-items-requires c).Start
 
