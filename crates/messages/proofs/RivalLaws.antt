@@ -52,8 +52,8 @@ row_keyed {key} {m} x {l} h e {j} b =
 
 -- ---- the rivals by the index are the label's others
 
-pub rival_is : (I : Instance) {index : List ℕ} → Indexed I.label (node_cells I) index → (labels : List ℤ) (i l : ℕ) → l < 64 → l ≡ I.label i
-    → least_from (pos 0) (map (λ j. get_or labels j (pos 0)) (others i (held index l))) ≡ label_rival I labels i
+pub rival_is : (I : Instance) {index row : List ℕ} → Indexed I.label (node_cells I) index → (labels : List ℤ) (i : ℕ) {l : ℕ} → l < 64 → l ≡ I.label i → row ≡ held index l
+    → least_from (pos 0) (map (λ j. get_or labels j (pos 0)) (others i row)) ≡ label_rival I labels i
 unfolding label_places
-rival_is I {index} x labels i l h e =
-    ap (λ (k : List ℕ). least_from (pos 0) (map (λ j. get_or labels j (pos 0)) (others i k))) (x.rows l h ∙ ap (λ (m : ℕ). having I.label m (node_cells I)) e)
+rival_is I x labels i {l} h e r =
+    ap (λ (k : List ℕ). least_from (pos 0) (map (λ j. get_or labels j (pos 0)) (others i k))) (r ∙ x.rows l h ∙ ap (λ (m : ℕ). having I.label m (node_cells I)) e)

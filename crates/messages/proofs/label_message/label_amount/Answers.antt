@@ -1,10 +1,7 @@
 -- `label_amount` meets its contract: a share of the distance from the least of 0 and the label's other costs.
-use Rattle.std.proofs.Common.{◌≡◌, ◌<◌, List, map, get_or, ℕ, ℤ, pos, ◌-ℤ◌, ap, ◌∙◌, ap₂, arith, to_z-of_z, w64, rules}
-use Rattle.integers.specs.Least.{least_from}
-use Rattle.integers.specs.Places.{others}
+use Rattle.std.proofs.Common.{◌≡◌, ◌<◌, get_or, ℤ, pos, ◌-ℤ◌, ◌∙◌, ap₂, arith, to_z-of_z, w64, rules}
 use Rattle.integers.specs.Share.{share}
 use Rattle.integers.proofs.Bits.{same, answer}
-use Rattle.instance.specs.Instance.{Instance}
 use Rattle.instance.specs.Sheet.{instance_of}
 use Rattle.instance.proofs.LaidOut.{label_known_lem}
 use Rattle.instance.proofs.Sheets as sheet
@@ -23,10 +20,8 @@ row l =
 rival : (p : After-label_rival) → (let a = p.args in p.label_rival.result ≡ label_rival (instance_of a.run.now.sheet.bytes.now) a.labels.now a.place)
 rival p =
     let a = p.args in
-    let l = a.labels.now in
     p.label_rival.ensures
-    ∙ ap (λ (r : List ℕ). least_from (pos 0) (map (λ j. get_or l j (pos 0)) (others a.place r))) p.row-places.ensures.things
-    ∙ rival_is (instance_of a.run.now.sheet.bytes.now) a.run.now.held l a.place p.label.result (row (goal.at.After-label_rival p).After-label) p.label.ensures.0
+    ∙ rival_is (instance_of a.run.now.sheet.bytes.now) a.run.now.held a.labels.now a.place (row (goal.at.After-label_rival p).After-label) p.label.ensures.0 p.row-places.ensures.things
 
 pub row-places-requires : goal.row-places-requires
 row-places-requires c = row c

@@ -1,5 +1,5 @@
 -- `label_rival` meets its contract: after k places the best is the least of the first k.
-use Rattle.std.proofs.Common.{ℕ, [], ◌∷◌, map, get_or, take, ℤ, pos, sym, ap, ◌∙◌, ap₂, take_all}
+use Rattle.std.proofs.Common.{ℕ, [], ◌∷◌, map, get_or, take, ℤ, pos, sym, ap, ◌∙◌, ap₂}
 use Rattle.std.proofs.lemmas.List.{take_more}
 use Rattle.integers.specs.Least.{least_from}
 use Rattle.integers.specs.Places.{others}

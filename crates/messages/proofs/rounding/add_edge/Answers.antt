@@ -1,10 +1,8 @@
 -- `add_edge` meets its contract: the row lies in the edge's table.
 use Rattle.std.proofs.Common.{◌≡◌, ℕ, ◌+◌, ◌-◌, ◌*◌, ◌<◌, ◌≤◌, length, get_or, take, drop, sym, ap, ◌∙◌, subst, ap₂, arith}
-use Rattle.integers.proofs.Rows.{length_part, within_part}
 use Rattle.instance.specs.Instance.{Instance, table}
 use Rattle.instance.specs.Sheet.{instance_of}
 use Rattle.instance.proofs.Sheets as sheet
-use Rattle.rules.specs.Calls.{cost_limit}
 use Rattle.rules.specs.Costs.{position}
 use Rattle.messages.specs.Rounded.{added, edge_row}
 use Rattle.messages.proofs.KeyLaws.{row_room}

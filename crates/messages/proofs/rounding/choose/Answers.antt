@@ -3,7 +3,7 @@ use Rattle.std.proofs.Common.{◌≡◌, ℕ, ◌+◌, ◌<◌, false, Option, g
 use Rattle.instance.specs.Instance.{Instance, first}
 use Rattle.instance.specs.Sheet.{instance_of}
 use Rattle.instance.proofs.Sheets as sheet
-use Rattle.messages.specs.Rounded.{better, chosen_from}
+use Rattle.messages.specs.Rounded.{better}
 use Rattle.messages.proofs.ChoiceLaws.{chosen_none, chosen_few, chosen_more}
 use Rattle.messages.proofs.rounding.choose.Goals as goal
 use Rattle.messages.proofs.rounding.choose.Goals.{In-loop-k, Start}

@@ -3,15 +3,13 @@ use Rattle.std.proofs.Common.{◌≡◌, ℕ, ◌+◌, ◌-◌, ◌^◌, ◌<◌
 use Rattle.std.proofs.lemmas.List.{take_more}
 use Rattle.integers.specs.Rows.{part}
 use Rattle.integers.specs.Sum.{Within}
-use Rattle.integers.proofs.Rows.{length_part, within_part}
 use Rattle.instance.specs.Instance.{Instance, first}
 use Rattle.instance.specs.Sheet.{instance_of}
 use Rattle.instance.specs.declared.sheet.Sheet.{Sheet}
 use Rattle.instance.proofs.Sheets as sheet
-use Rattle.rules.specs.Calls.{cost_limit}
 use Rattle.messages.specs.Rounded.{added, edge_row}
 use Rattle.messages.proofs.RivalLaws.{row_keyed}
-use Rattle.messages.proofs.KeyLaws.{zeros_within, keys_over, keys_length, keys_small, keys_first, keys_next, keys_all, row_room}
+use Rattle.messages.proofs.KeyLaws.{keys_over, keys_length, keys_small, keys_first, keys_next, keys_all, row_room}
 use Rattle.messages.proofs.rounding.keys_of.Goals as goal
 use Rattle.messages.proofs.rounding.keys_of.Goals.{After-degree, After-from, At-loop-e, Start}
 
