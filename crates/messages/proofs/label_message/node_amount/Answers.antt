@@ -4,9 +4,7 @@ use Rattle.integers.specs.Least.{without}
 use Rattle.integers.specs.Rows.{part}
 use Rattle.integers.specs.Share.{amount}
 use Rattle.integers.proofs.Bits.{same}
-use Rattle.integers.proofs.Rows.{length_part, within_part}
 use Rattle.instance.specs.Sheet.{instance_of}
-use Rattle.rules.specs.Calls.{cost_limit}
 use Rattle.messages.proofs.LabelMessageLaws.{row_in, node_given}
 use Rattle.messages.proofs.label_message.node_amount.Goals as goal
 use Rattle.messages.proofs.label_message.node_amount.Goals.{After-degree, Start}

@@ -2,7 +2,7 @@
 use Rattle.std.proofs.Common.{◌≡◌, get_or, pos, ◌+ℤ◌, ◌-ℤ◌, sym, ap, ◌∙◌, ap₂, to_z-of_z, w64, to_z, of_z, rules}
 use Rattle.integers.specs.Checks.{within}
 use Rattle.integers.proofs.Bits.{same}
-use Rattle.messages.proofs.LabelMessageLaws.{minus_fits, plus_fits, moved_both, moved_not}
+use Rattle.messages.proofs.LabelMessageLaws.{moved_both, moved_not}
 use Rattle.messages.proofs.label_message.shift_label.Goals as goal
 use Rattle.messages.proofs.label_message.shift_label.Goals.{After-plus-label, Start}
 
