@@ -1,6 +1,6 @@
 -- The keys of a node's positions: node costs, and the rows of its edges to lower nodes added one after another.
 -- Assumes nothing.
-use Rattle.std.proofs.Common.{◌≡◌, ℕ, zero, suc, ◌+◌, ◌*◌, ◌^◌, ◌<◌, ◌≤◌, eqb, ltb, List, [], ◌∷◌, ◌++◌, length, get_or, take, set, replicate, ℤ, pos, ◌+ℤ◌, nat_abs, sym, refl, ap, ◌∙◌, subst, ap₂, not-suc-le-zero, add_assoc, mul_comm, mul-le-mul_left, mul-suc, add-one, arith, ext_get_or, ltb-false, ltb-true, le-ltb, lt-ltb}
+use Rattle.std.proofs.Common.{◌≡◌, ℕ, zero, suc, ◌+◌, ◌*◌, ◌^◌, ◌<◌, ◌≤◌, eqb, ltb, List, [], ◌∷◌, ◌++◌, length, get_or, take, set, replicate, ℤ, pos, ◌+ℤ◌, nat_abs, sym, refl, ap, ◌∙◌, ap₂, not-suc-le-zero, add_assoc, mul_comm, mul-le-mul_left, mul-suc, add-one, arith, ext_get_or, ltb-false, ltb-true, le-ltb, lt-ltb}
 use lib.ListN.{length-replicate, get_or-replicate, get_or-eq_default}
 use Rattle.integers.specs.Sum.{Within}
 use Rattle.integers.specs.Rows.{part}
@@ -123,9 +123,6 @@ module _ (d : ℕ) where
       (λ t. rw (keys_past f k l (ltb-false k d t)) (omega arith)))
       (λ s. let l : 16 ≤ k = ltb-false k 16 s in
       let e : get_or (keys_for f) k (pos 0) ≡ pos 0 = get_or-eq_default (keys_for f) (pos 0) (omega (arith, keys_long f)) in rw e (omega arith))
-
-pub zeros_within : Within (2 ^ 50) (replicate 16 (pos 0))
-zeros_within = subst (λ (l : List ℤ). Within (2 ^ 50) l) (sym (keys_zero 0)) (keys_within 0 (2 ^ 50) (λ k. pos 0) (λ k. omega arith))
 
 -- a sum over the things of one key
 sum_over : (ℕ → ℤ) → List ℕ → ℤ

@@ -1,4 +1,4 @@
--- A label's other costs, as the index of places by label has them.
+-- A label's other costs, as the index of places by label has them, and the things of a row of any index.
 -- Assumes nothing.
 use Rattle.std.proofs.Common.{◌≡◌, ℕ, ◌<◌, List, [], ◌∷◌, ◌++◌, map, length, get_or, ℤ, pos, sym, refl, ap, ◌∙◌, subst, eq-eqb, ne_eqb}
 use mathlib.Core.List.{map-append}
