@@ -32,12 +32,12 @@ way_back rules.node_to_label = refl
 way_back rules.label_to_node = refl
 
 -- the message in a kind
-way_in : Way → Option Kind → Way
+abbrev way_in : Way → Option Kind → Way
 way_in d (Some (Message w)) = w
 way_in d o = d
 
 pub kind_message : (k : runs.Kind) (w : Way) → Some (Message w) ≡ kind_as k → k ≡ runs.message (way_of w)
-kind_message (runs.message m) w e = ap runs.message (λ j. sym (way_back m) j) ∙ ap (λ v. runs.message (way_of v)) (sym (ap (way_in w) e))
+kind_message (runs.message m) w e = ap runs.message (sym (way_back m)) ∙ ap (λ v. runs.message (way_of v)) (sym (ap (way_in w) e))
 kind_message runs.rounding w e = cc e
 kind_message runs.unknown w e = cc e
 
@@ -54,7 +54,7 @@ kind_unknown runs.unknown e = refl
 -- ---- a record in five bytes
 
 -- the record in an answer
-record_in : Record → Option Record → Record
+abbrev record_in : Record → Option Record → Record
 record_in d None = d
 record_in d (Some r) = r
 

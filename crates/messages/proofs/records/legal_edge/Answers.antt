@@ -1,5 +1,5 @@
 -- `legal_edge` meets its contract, test by test.
-use Rattle.std.proofs.Common.{◌≡◌, ◌<◌, true, eqb, sym, ap, ◌∙◌, arith}
+use Rattle.std.proofs.Common.{◌≡◌, ◌<◌, true, eqb, eq-eqb, sym, ap, ◌∙◌, arith}
 use Rattle.instance.specs.Instance.{Instance}
 use Rattle.instance.specs.Sheet.{instance_of}
 use Rattle.rules.specs.Run.{legal_share}
@@ -33,13 +33,13 @@ listed p = omega (arith, p.if-e-sheet.true, edges_is (start (goal.at.Then-e-shee
 pub returns-then-u-low : goal.returns-then-u-low
 returns-then-u-low c =
     let o = (goal.at.returns-then-u-low c).Then-legal_share in let q = start o in
-    edge_low (I q) (r q).node (r q).index (r q).share (shared o) (inner (goal.at.returns-then-u-low c).Then-u-sheet) (listed (goal.at.returns-then-u-low c).Then-e-sheet) (c.if-u-low.true ∙ c.low.ensures.0)
+    eq-eqb _ _ c.if-u-low.true ∙ edge_low (I q) (r q).node (r q).index (r q).share (shared o) (inner (goal.at.returns-then-u-low c).Then-u-sheet) (listed (goal.at.returns-then-u-low c).Then-e-sheet) (c.if-u-low.true ∙ c.low.ensures.0)
 
-pub returns-then-e-sheet : goal.returns-then-e-sheet
-returns-then-e-sheet c =
-    let o = (goal.at.returns-then-e-sheet c).Then-legal_share in let q = start o in
+pub returns-else-u-low : goal.returns-else-u-low
+returns-else-u-low c =
+    let o = (goal.at.returns-else-u-low c).Then-legal_share in let q = start o in
     ap (eqb (r q).node) c.high.ensures.0
-    ∙ edge_high (I q) (r q).node (r q).index (r q).share (shared o) (inner (goal.at.returns-then-e-sheet c).Then-u-sheet) (listed (goal.at.returns-then-e-sheet c).Then-e-sheet) (λ z. c.if-u-low.false (z ∙ sym c.low.ensures.0))
+    ∙ edge_high (I q) (r q).node (r q).index (r q).share (shared o) (inner (goal.at.returns-else-u-low c).Then-u-sheet) (listed (goal.at.returns-else-u-low c).Then-e-sheet) (λ z. c.if-u-low.false (z ∙ sym c.low.ensures.0))
 
 pub returns-else-e-sheet : goal.returns-else-e-sheet
 returns-else-e-sheet c =
