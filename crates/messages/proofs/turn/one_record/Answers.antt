@@ -28,7 +28,7 @@ module _ (q : Start) where
   limit = q.args.run.now.limit
 
   abbrev l : List ℕ
-  l = q.args.record.now
+  l = q.args.bytes.now
 
   abbrev kind : runs.Kind
   kind = kind_of (get_or l 0 0)
