@@ -8,9 +8,8 @@ use Rattle.integers.proofs.Parts.{linear, add}
 use Rattle.integers.proofs.Places.{if-true, if-false, length-tabulate, get_d_tabulate}
 use Rattle.integers.proofs.Totals.{some_zero}
 use Rattle.integers.proofs.Checks.{Tested, tested_none, tested_more, tested_all, below_fails}
-use Rattle.instance.specs.Instance.{Instance, exclusive, node_cells, cell}
-use Rattle.instance.specs.Sheet.{instance_of, refusal_of}
-use Rattle.instance.proofs.LaidOut.{row_inside}
+use Rattle.instance.specs.Instance.{Instance, exclusive, cell}
+use Rattle.instance.specs.Sheet.{instance_of}
 use Rattle.rules.specs.Costs.{Buffers, none_kept, prices, position, chosen, chosen_cell, paid, cost_of, price_of, Labelling}
 use Rattle.rules.specs.Rounding.{free, adopt}
 use Rattle.rules.specs.Calls.{is_matching, incumbent_ok}

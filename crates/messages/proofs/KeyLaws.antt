@@ -1,28 +1,26 @@
 -- The keys of a node's positions: node costs, and the rows of its edges to lower nodes added one after another.
 -- Assumes nothing.
-use Rattle.std.proofs.Common.{◌≡◌, ℕ, zero, suc, ◌+◌, ◌*◌, ◌^◌, ◌<◌, ◌≤◌, eqb, ltb, List, [], ◌∷◌, ◌++◌, map, length, get_or, take, drop, set, replicate, ℤ, pos, ◌+ℤ◌, nat_abs, sym, refl, ap, ◌∙◌, subst, ap₂, not-suc-le-zero, add_assoc, mul_comm, mul-le-mul_left, mul-suc, add-one, arith, get_or-drop, get_or-take, ext_get_or, ltb-false, ltb-true, le-ltb, lt-ltb}
-use mathlib.Core.List.{map-append}
+use Rattle.std.proofs.Common.{◌≡◌, ℕ, zero, suc, ◌+◌, ◌*◌, ◌^◌, ◌<◌, ◌≤◌, eqb, ltb, List, [], ◌∷◌, ◌++◌, length, get_or, take, set, replicate, ℤ, pos, ◌+ℤ◌, nat_abs, sym, refl, ap, ◌∙◌, ap₂, not-suc-le-zero, add_assoc, mul_comm, mul-le-mul_left, mul-suc, add-one, arith, ext_get_or, ltb-false, ltb-true, le-ltb, lt-ltb}
 use lib.ListN.{length-replicate, get_or-replicate, get_or-eq_default}
 use Rattle.integers.specs.Sum.{Within}
 use Rattle.integers.specs.Rows.{part}
 use Rattle.integers.specs.Places.{range, select, tabulate, total, only}
 use Rattle.integers.proofs.Parts.{linear, add}
 use Rattle.integers.proofs.Places.{by-test, if-true, if-false, length-tabulate, get_d_tabulate}
-use Rattle.integers.proofs.Ranges.{range_last, range-part}
 use Rattle.integers.proofs.Sum.{abs_add}
 use Rattle.integers.proofs.Rows.{length_part, get_d_part}
-use Rattle.index.specs.Index.{having, many, Indexed}
-use Rattle.index.proofs.Indexed.{many_is}
-use Rattle.index.proofs.Lists.{select_next, select_past, at_place}
+use Rattle.index.specs.Index.{having}
+use Rattle.index.proofs.Lists.{select_next, select_past}
 use Rattle.instance.specs.Instance.{Instance, first, table_size, table, cell}
-use Rattle.instance.specs.Sheet.{instance_of, refusal_of}
+use Rattle.instance.specs.Sheet.{instance_of}
 use Rattle.instance.proofs.LaidOut.{table_inside}
 use Rattle.rules.specs.Calls.{cost_limit}
 use Rattle.rules.specs.Costs.{Costs, position}
 use Rattle.rules.specs.Rounding.{key}
 use Rattle.messages.specs.Lent.{EdgeFits}
 use Rattle.messages.specs.Rounded.{costs_by, added, keys_at, edge_row, Placed}
-use Rattle.messages.proofs.SheetLaws.{proper}
+use Rattle.instance.specs.declared.sheet.Sheet.{Sheet}
+use Rattle.instance.proofs.Sheets as sheet
 
 -- ---- a row added, place by place: after i places the row's first i are added
 
@@ -126,9 +124,6 @@ module _ (d : ℕ) where
       (λ s. let l : 16 ≤ k = ltb-false k 16 s in
       let e : get_or (keys_for f) k (pos 0) ≡ pos 0 = get_or-eq_default (keys_for f) (pos 0) (omega (arith, keys_long f)) in rw e (omega arith))
 
-pub zeros_within : Within (2 ^ 50) (replicate 16 (pos 0))
-zeros_within = subst (λ (l : List ℤ). Within (2 ^ 50) l) (sym (keys_zero 0)) (keys_within 0 (2 ^ 50) (λ k. pos 0) (λ k. omega arith))
-
 -- a sum over the things of one key
 sum_over : (ℕ → ℤ) → List ℕ → ℤ
 sum_over f [] = pos 0
@@ -210,32 +205,19 @@ module _ (I : Instance) (nodes edges : List ℤ) (x : List ℕ) (u : ℕ) where
   unfolding keys_over key_over keys_at key
   keys_all = keys_ext (I.degree u) (key_over (having I.high u I.edge_count)) (key I c x u) (λ k. ap (λ (z : ℤ). c.node (first I u + k) +ℤ z) (sym (total-having I.high u (cell_at k) I.edge_count)))
 
--- ---- the row of an index, one thing after another
-
-module _ {key : ℕ → ℕ} {m : ℕ} {index : List ℕ} (x : Indexed key m index) (u : ℕ) (h : u < 64) where
-  abbrev pub things : ℕ → List ℕ
-  things n = map (λ j. get_or index j 0) (range (65 * u + 1) n)
-
-  pub things_more : (n : ℕ) → things (n + 1) ≡ things n ++ get_or index (65 * u + 1 + n) 0 ∷ []
-  things_more n = rw (add-one n, range_last (65 * u + 1) n) (map-append (λ j. get_or index j 0) (range (65 * u + 1) n) ((65 * u + 1 + n) ∷ []))
-
-  -- each has the key
-  pub thing_keyed : {n : ℕ} → n < many index u → key (get_or index (65 * u + 1 + n) 0) ≡ u
-  thing_keyed {n} b =
-      let from = 65 * u + 1 in
-      let room : from + many index u ≤ length index = omega (arith, x.size, x.few u h) in
-      let e : get_or (having key u m) n 0 ≡ get_or index (from + n) 0 = ap (λ (l : List ℕ). get_or l n 0) (sym (x.rows u h) ∙ range-part index 0 from (many index u) room) ∙ get_or-take (many index u) (drop from index) n 0 b ∙ get_or-drop from index n 0 in
-      ap key (sym e) ∙ (at_place key u m n (omega (arith, many_is x u h))).0
-
 -- ---- the row of an edge lies in its table
 
 row_end : (d a p : ℕ) → p < a → d * p + d ≤ a * d
 row_end d a p h = omega (arith, mul-suc d p, mul_comm a d, mul-le-mul_left d h)
 
-pub row_room : (s : List ℕ) → refusal_of s ≡ 0 → {edges : List ℤ} → EdgeFits s edges → (x : List ℕ) {u : ℕ} → Placed s x u → {e : ℕ} → e < (instance_of s).edge_count → (instance_of s).high e ≡ u
-    → table (instance_of s) e + (instance_of s).degree ((instance_of s).high e) * position x ((instance_of s).low e) + (instance_of s).degree ((instance_of s).high e) ≤ length edges
-unfolding table_size
-row_room s r f x placed {e} h q =
-    let J = instance_of s in
-    let p = placed (J.low e) (omega (arith, (proper s r).ordered e h)) in
-    omega (arith, row_end (J.degree (J.high e)) (J.degree (J.low e)) (position x (J.low e)) p, table_inside J h, f.size)
+module _ (q : Sheet) where
+  abbrev J : Instance
+  J = instance_of q.bytes.now
+
+  pub row_room : {edges : List ℤ} → EdgeFits q.bytes.now edges → (x : List ℕ) {u : ℕ} → Placed q.bytes.now x u → {e : ℕ} → e < q.edges → J.high e ≡ u
+      → table J e + J.degree (J.high e) * position x (J.low e) + J.degree (J.high e) ≤ length edges
+  unfolding table_size
+  row_room f x placed {e} h z =
+      let i = sheet.edge_there q h in
+      let p = placed (J.low e) (omega (arith, (sheet.proper q).ordered e i)) in
+      omega (arith, row_end (J.degree (J.high e)) (J.degree (J.low e)) (position x (J.low e)) p, table_inside J i, f.size)

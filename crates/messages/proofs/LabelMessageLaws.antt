@@ -1,13 +1,13 @@
 -- Kinds 3 and 4: what a place gives to its label or takes from it, that it fits, and the one amount moved.
 -- Assumes nothing.
-use Rattle.std.proofs.Common.{◌≡◌, ℕ, zero, suc, ◌+◌, ◌^◌, ◌<◌, ◌≤◌, true, false, ◌&&◌, List, [], ◌∷◌, map, length, get_or, set, ℤ, pos, ◌+ℤ◌, ◌-ℤ◌, nat_abs, sym, refl, ap, ◌∙◌, ap₂, arith, w64, SFits}
+use Rattle.std.proofs.Common.{◌≡◌, ℕ, zero, suc, ◌+◌, ◌^◌, ◌<◌, ◌≤◌, true, false, ◌&&◌, List, [], ◌∷◌, map, length, get_or, set, ℤ, pos, ◌+ℤ◌, ◌-ℤ◌, nat_abs, sym, refl, ap, ◌∙◌, ap₂, arith}
 use Rattle.integers.specs.Checks.{within}
 use Rattle.integers.specs.Least.{least_of, without}
 use Rattle.integers.specs.Share.{share, amount}
 use Rattle.integers.specs.Sum.{Within}
 use Rattle.integers.specs.Rows.{part}
 use Rattle.integers.specs.Places.{range, others}
-use Rattle.integers.proofs.Parts.{linear, add, sub, abs}
+use Rattle.integers.proofs.Parts.{sub, abs}
 use Rattle.integers.proofs.Places.{if-true, if-false, and_both}
 use Rattle.integers.proofs.Share.{abs_le, amount_toward}
 use Rattle.integers.proofs.Ranges.{others-part}
@@ -76,12 +76,6 @@ unfolding amount least_of
 label_shared I l i r = refl
 
 -- ---- one amount moved
-
-pub minus_fits : (x p : ℤ) → nat_abs x ≤ cost_limit → nat_abs p ≤ 2 ^ 41 → SFits w64 (x -ℤ p)
-minus_fits x p h g = omega (linear, sub x p, abs x, abs p)
-
-pub plus_fits : (x p : ℤ) → nat_abs x ≤ cost_limit → nat_abs p ≤ 2 ^ 41 → SFits w64 (x +ℤ p)
-plus_fits x p h g = omega (linear, add x p, abs x, abs p)
 
 module _ (limit : ℕ) (nodes labels : List ℤ) (i : ℕ) (p : ℤ) where
   abbrev node : ℤ

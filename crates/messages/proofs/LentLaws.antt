@@ -11,6 +11,8 @@ use Rattle.instance.specs.Sheet.{instance_of, checks, refusal_of}
 use Rattle.instance.proofs.Shown.{checks-numbered}
 use Rattle.rules.specs.Costs.{Buffers, in_range}
 use Rattle.rules.specs.Calls.{lengths_ok, is_matching, incumbent_ok, lent_checks, lent_refusal, cost_limit}
+use Rattle.instance.specs.declared.sheet.Sheet.{Sheet}
+use Rattle.instance.proofs.Sheets.{nodes_is, positions_is, cells_is}
 use Rattle.messages.specs.Lent.{NodeFits, EdgeFits}
 use Rattle.messages.proofs.RowLaws.{all_within}
 use Rattle.rules.proofs.Opening.{lengths_are}
@@ -102,14 +104,14 @@ pub incumbent_some : (J : Instance) (x : List ℕ) → every (eqb 255) x ≡ fal
 unfolding incumbent_ok
 incumbent_some J x e = sym (ap (λ (t : Bool). t || is_matching J x) e)
 
--- ---- three tests in turn
+-- ---- the lengths by what reading found
 
-pub all_three : {a b : Bool} → a ≡ true → b ≡ true → (c : Bool) → c ≡ (a && b && c)
-all_three p q c = sym (λ t. p t && q t && c)
-
-pub second_not : (a : Bool) {b : Bool} → b ≡ false → (c : Bool) → false ≡ (a && b && c)
-second_not true e c = sym (ap (λ (b : Bool). b && c) e)
-second_not false e c = λ _. false
-
-pub first_not : {a : Bool} → a ≡ false → (b c : Bool) → false ≡ (a && b && c)
-first_not e b c = sym (ap (λ (a : Bool). a && b && c) e)
+module _ (q : Sheet) (b : Buffers) where
+  pub lengths_by : lengths_ok (instance_of q.bytes.now) b
+      ≡ (eqb (length b.nodes) q.positions && eqb (length b.labels) q.positions && eqb (length b.edges) q.cells && eqb (length b.incumbent) q.nodes)
+  unfolding lengths_ok
+  lengths_by =
+      let p = sym (positions_is q) in
+      let c = sym (cells_is q) in
+      let n = sym (nodes_is q) in
+      λ t. eqb (length b.nodes) (p t) && eqb (length b.labels) (p t) && eqb (length b.edges) (c t) && eqb (length b.incumbent) (n t)

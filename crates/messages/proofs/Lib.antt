@@ -22,6 +22,7 @@ pub mod RoundTurns
 pub mod LentLaws
 pub mod ReportLaws
 pub mod EdgeRecordLaws
+pub mod KindLaws
 pub mod RecordLaws
 pub mod RoundRecordLaws
 pub mod TurnLaws

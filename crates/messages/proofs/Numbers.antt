@@ -10,7 +10,10 @@ use Rattle.instance.specs.declared.refusal.Refusal.TheVariants.{NoTrailer, OverL
 use Rattle.instance.specs.Refusal.{number, number_of}
 use Rattle.instance.specs.Sheet.{instance_of, checks, refusal_of}
 use Rattle.instance.proofs.Readable.{readable}
+use borrow.Author.Tests.{eqb-false}
+use lib.Signed.{le_z}
 use Rattle.rules.specs.Costs.{Buffers, none_kept}
+use Rattle.rules.specs.Held.{bound_in, kept_price}
 use Rattle.rules.specs.Run as runs
 use Rattle.rules.specs.Run.{Ran, records, run_list}
 use Rattle.rules.specs.Calls as calls
@@ -71,4 +74,7 @@ Small (calls.kept z p g) = Unit {0}
 pub report_number : (s : List ℕ) (limit : ℕ) (b : Buffers) → Small (report_of s limit b)
 unfolding report_of told
 report_number s limit b =
-    by-test (eqb (lent_refusal s limit b) 0) (λ t. ?) (λ t. ?)
+    by_cond Small (eqb (lent_refusal s limit b) 0)
+    (λ t. by_cond Small (none_kept b.incumbent) (λ u. tt)
+    (λ u. by_cond Small (le_z (bound_in (instance_of s) b) (kept_price (instance_of s) b)) (λ v. tt) (λ v. (lit≤ tt, lit≤ tt))))
+    (λ t. let d = eqb-false (lent_refusal s limit b) 0 t in (omega arith, lent_number s limit b))

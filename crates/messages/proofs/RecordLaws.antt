@@ -1,27 +1,16 @@
 -- Legality: what the code's tests say of it, and what a legal record is known by.
 -- Assumes nothing.
-use Rattle.std.proofs.Common.{◌≡◌, ℕ, ◌+◌, ◌<◌, ◌≤◌, Bool, true, false, eqb, leb, List, ℤ, sym, le-ltb, lt-ltb, eq-eqb, ne_eqb, le-leb, leb-true, leb-false, eqb-true, ap, arith, suc}
-use lib.ListN.{get_or-eq_default}
-use borrow.Author.Tests.{lt-leb, eqb-false}
-use Rattle.integers.proofs.Places.{by-test, if-true, if-false}
+use Rattle.std.proofs.Common.{◌≡◌, ℕ, ◌+◌, ◌<◌, ◌≤◌, Bool, true, false, eqb, leb, List, ℤ, sym, le-ltb, lt-ltb, eq-eqb, ne_eqb, le-leb}
+use borrow.Author.Tests.{lt-leb}
+use Rattle.integers.proofs.Places.{if-true, if-false}
 use Rattle.instance.specs.Instance.{Instance, exclusive, first}
 use Rattle.instance.specs.Sheet.{instance_of, refusal_of}
-use Rattle.rules.specs.Run.{unknown, kind_of, legal_share, legal_edge, legal_position}
+use Rattle.rules.specs.Run.{legal_share, legal_edge, legal_position}
 use Rattle.rules.proofs.Run.{legal_edge_is, legal_position_is}
 use Rattle.messages.specs.Lent.{NodeFits, EdgeFits}
 use Rattle.messages.specs.LabelMessage.{label_move, label_moved, label_given, PlaceAsked}
 use Rattle.messages.specs.EdgeRecord.{edge_move, edge_moved, EdgeLegal}
 use Rattle.messages.specs.Records.{label_taken, edge_taken}
-
--- ---- kinds
-
--- a number that is none of 1 to 5 is no kind's
-pub kind_past : (n : ℕ) → (1 ≤ n → n ≤ 5 → ⊥) → kind_of n ≡ unknown
-unfolding kind_of
-kind_past n h =
-    by-test (eqb n 0) (λ t. ap kind_of (eqb-true n 0 t))
-    (λ t. let d : n ≡ 0 → ⊥ = eqb-false n 0 t in
-    by-test (leb 6 n) (λ u. get_or-eq_default _ unknown (leb-true 6 n u)) (λ u. absurd (h (omega arith) ?)))
 
 -- ---- shares
 

@@ -152,15 +152,15 @@ module _ (q : Sheet) (nodes edges : List ℤ) where
       label_few k h = label_small good (first I u + k) (omega (arith, row_inside I node))
 
       -- what the code chooses
-      pub choice_read : {at d : ℕ} {keys : List ℤ} → at ≡ first I u → keys ≡ keys_at I c x u → d ≡ I.degree u → chosen_from I at keys untaken d ≡ or_none (choice I c (take u x) u)
+      pub choice_read : {keys : List ℤ} → keys ≡ keys_at I c x u → chosen_from I (first I u) keys untaken (I.degree u) ≡ or_none (choice I c (take u x) u)
       unfolding chosen_from choice keys_at only
-      choice_read {at} {d} {keys} ea ek ed =
-          rw (ea, ed) (ap or_none (best_of_ext (λ k. get_or keys k (pos 0)) (key I c (take u x) u) (λ k. get_or untaken (I.label (first I u + k)) false) (free I (take u x) u) (I.degree u)
+      choice_read {keys} ek =
+          ap or_none (best_of_ext (λ k. get_or keys k (pos 0)) (key I c (take u x) u) (λ k. get_or untaken (I.label (first I u + k)) false) (free I (take u x) u) (I.degree u)
           (λ k h. ap (λ (l : List ℤ). get_or l k (pos 0)) ek ∙ get_d_tabulate 16 (λ k. only (ltb k (I.degree u)) (key I c x u k)) k (pos 0) (omega (arith, good.few u node))
           ∙ if-true (key I c x u k) (pos 0) (lt-ltb k (I.degree u) h) ∙ sym (key_agree I good c (take u x) x u agree k))
           (λ k h. ap (λ (l : List Bool). get_or l (I.label (first I u + k)) false) t.labels
           ∙ get_d_tabulate 256 (unused I x u) (I.label (first I u + k)) false (label_few k h)
-          ∙ sym (free_is I (take u x) u k ∙ unused_agree I (take u x) x u agree (I.label (first I u + k))))))
+          ∙ sym (free_is I (take u x) u k ∙ unused_agree I (take u x) x u agree (I.label (first I u + k)))))
 
       -- no choice, and what comes of it
       pub round_stop : None ≡ or_none (choice I c (take u x) u) → None ≡ rounded_by (round I c)

@@ -1,6 +1,6 @@
 -- A run as its loop goes through it: some records are done, and the rest from here is the rest of the whole run.
 -- Assumes nothing.
-use Rattle.std.proofs.Common.{◌≡◌, ℕ, suc, ◌+◌, ◌*◌, ◌%◌, ◌<◌, ◌≤◌, cond, eqb, List, [], ◌∷◌, length, get_or, drop, sym, refl, ap, ◌∙◌, subst, ap₂, inl, inr, arith, length-drop, drop-drop, eq-eqb, ne_eqb}
+use Rattle.std.proofs.Common.{◌≡◌, ℕ, suc, ◌+◌, ◌*◌, ◌%◌, ◌<◌, ◌≤◌, cond, eqb, List, [], ◌∷◌, length, get_or, take, get_or-take, lit<, ◌-◌, drop, sym, refl, ap, ◌∙◌, subst, ap₂, inl, inr, arith, length-drop, drop-drop, eq-eqb, eqb-true, ne_eqb}
 use lib.Seq.{drop-length}
 use Rattle.instance.specs.Instance.{Instance}
 use Rattle.instance.specs.Sheet.{instance_of}
@@ -10,10 +10,11 @@ use Rattle.rules.specs.Costs.{Buffers, Sized}
 use Rattle.rules.specs.Run.{Record, Outcome, refused, done, Ran, kind_of, records, step, run, run_list}
 use Rattle.rules.specs.Calls.{lent_refusal, run_refusal, run_of}
 use Rattle.rules.proofs.Calls.{run_refusal_by}
-use Rattle.integers.proofs.Places.{if-true, if-false}
+use borrow.Author.Tests.{eqb-false}
+use Rattle.integers.proofs.Places.{by-test, if-true, if-false}
 use Rattle.rules.proofs.Run.{Done, effect_later, Numbered, effect_number}
 use Rattle.rules.proofs.Loops.{carry, carry_start, carry-done, carry-refused, carry_end, records_next}
-use Rattle.messages.specs.Step.{Settled, settle, settled}
+use Rattle.messages.specs.Step.{Settled, settle, settled, settled_as, settled_by}
 use Rattle.messages.specs.Turn.{Good}
 use Rattle.messages.proofs.TurnLaws.{good_next, stuck_once}
 
@@ -24,35 +25,55 @@ ran_of b finished stuck refusal = record { buffers = b; finished = finished; stu
 -- ---- ahead of the records
 
 module _ (s : List ℕ) (limit : ℕ) (b : Buffers) (l : List ℕ) where
-  pub run_refused : (k : ℕ) → k ≡ lent_refusal s limit b → (k ≡ 0 → ⊥) → ran_of b 0 0 k ≡ run_of s limit b l
-  unfolding run_of
-  run_refused k e n =
-      ap (ran_of b 0 0) (e ∙ sym by) ∙ sym (if-false (run_list (instance_of s) limit b l) (ran_of b 0 0 (run_refusal s limit b l)) (ap (λ (i : ℕ). eqb i 0) (by ∙ sym e) ∙ ne_eqb k 0 n))
-    where
-      by : run_refusal s limit b l ≡ lent_refusal s limit b
-      by = run_refusal_by s limit b l ∙ if-false (cond (eqb (length l % 5) 0) 0 11) (lent_refusal s limit b) (ap (λ (i : ℕ). eqb i 0) (sym e) ∙ ne_eqb k 0 n)
+  by : run_refusal s limit b l ≡ cond (eqb (lent_refusal s limit b) 0) (cond (eqb (length l % 5) 0) 0 11) (lent_refusal s limit b)
+  by = run_refusal_by s limit b l
+
+  -- what turns a run back before its first record: what is lent, or else the list
+  pub run_unread : (lent_refusal s limit b ≡ 0 → ⊥) → lent_refusal s limit b ≡ run_refusal s limit b l
+  run_unread n = sym (by ∙ if-false (cond (eqb (length l % 5) 0) 0 11) (lent_refusal s limit b) (ne_eqb (lent_refusal s limit b) 0 n))
 
   module _ (e : lent_refusal s limit b ≡ 0) where
     own : run_refusal s limit b l ≡ cond (eqb (length l % 5) 0) 0 11
-    own = run_refusal_by s limit b l ∙ if-true (cond (eqb (length l % 5) 0) 0 11) (lent_refusal s limit b) (eq-eqb (lent_refusal s limit b) 0 e)
+    own = by ∙ if-true (cond (eqb (length l % 5) 0) 0 11) (lent_refusal s limit b) (eq-eqb (lent_refusal s limit b) 0 e)
 
-    pub run_partial : (length l % 5 ≡ 0 → ⊥) → ran_of b 0 0 11 ≡ run_of s limit b l
-    unfolding run_of
-    run_partial n =
-        let w : run_refusal s limit b l ≡ 11 = own ∙ if-false 0 11 (ne_eqb (length l % 5) 0 n) in
-        ap (ran_of b 0 0) (sym w) ∙ sym (if-false (run_list (instance_of s) limit b l) (ran_of b 0 0 (run_refusal s limit b l)) (ap (λ (i : ℕ). eqb i 0) w))
+    pub run_partial : (length l % 5 ≡ 0 → ⊥) → 11 ≡ run_refusal s limit b l
+    run_partial n = sym (own ∙ if-false 0 11 (ne_eqb (length l % 5) 0 n))
 
-    pub run_listed : length l % 5 ≡ 0 → run_list (instance_of s) limit b l ≡ run_of s limit b l
+    pub run_begins : length l % 5 ≡ 0 → 0 ≡ run_refusal s limit b l
+    run_begins h = sym (own ∙ if-true 0 11 (eq-eqb (length l % 5) 0 h))
+
+  -- turned back it alters and counts nothing
+  pub run_refused : (k : ℕ) → k ≡ run_refusal s limit b l → (k ≡ 0 → ⊥) → ran_of b 0 0 k ≡ run_of s limit b l
+  unfolding run_of
+  run_refused k e n =
+      ap (ran_of b 0 0) e ∙ sym (if-false (run_list (instance_of s) limit b l) (ran_of b 0 0 (run_refusal s limit b l)) (ap (λ (i : ℕ). eqb i 0) (sym e) ∙ ne_eqb k 0 n))
+
+  module _ (e : 0 ≡ run_refusal s limit b l) where
+    pub run_lent : lent_refusal s limit b ≡ 0
+    run_lent = by-test (eqb (lent_refusal s limit b) 0) (λ t. eqb-true (lent_refusal s limit b) 0 t) (λ t. run_unread (eqb-false (lent_refusal s limit b) 0 t) ∙ sym e)
+
+    pub run_whole : length l % 5 ≡ 0
+    run_whole =
+        by-test (eqb (length l % 5) 0) (λ t. eqb-true (length l % 5) 0 t)
+        (λ t. let z : 11 ≡ 0 = run_partial run_lent (eqb-false (length l % 5) 0 t) ∙ sym e in absurd (omega arith))
+
+    pub run_listed : run_list (instance_of s) limit b l ≡ run_of s limit b l
     unfolding run_of
-    run_listed h =
-        let w : run_refusal s limit b l ≡ 0 = own ∙ if-true 0 11 (eq-eqb (length l % 5) 0 h) in
-        sym (if-true (run_list (instance_of s) limit b l) (ran_of b 0 0 (run_refusal s limit b l)) (eq-eqb (run_refusal s limit b l) 0 w))
+    run_listed = sym (if-true (run_list (instance_of s) limit b l) (ran_of b 0 0 (run_refusal s limit b l)) (eq-eqb (run_refusal s limit b l) 0 (sym e)))
 
 -- ---- the records
 
 -- the record at the head of some bytes, as the rules have it
 abbrev pub record_of : List ℕ → Record
 record_of l = record { kind = kind_of (get_or l 0 0); node = get_or l 1 0; index = get_or l 2 0 + 256 * get_or l 3 0; share = get_or l 4 0 }
+
+-- what five bytes leave, cut out of a list at a place
+pub five_bytes : (I : Instance) (limit : ℕ) (b : Buffers) (l : List ℕ) (at : ℕ) → settled_by I limit b (take (at + 5 - at) (drop at l)) ≡ settled b (step I limit b (record_of (drop at l)))
+five_bytes I limit b l at =
+    let n : at + 5 - at ≡ 5 = omega arith in
+    let m = drop at l in
+    let cut : (k : ℕ) → k < 5 → get_or (take (at + 5 - at) m) k 0 ≡ get_or m k 0 = λ k h. ap (λ (j : ℕ). get_or (take j m) k 0) n ∙ get_or-take 5 m k 0 h in
+    (λ t. settled_as I limit b (kind_of (cut 0 (lit< tt) t)) (cut 1 (lit< tt) t) (cut 2 (lit< tt) t + 256 * cut 3 (lit< tt) t) (cut 4 (lit< tt) t))
 
 pub record Going (s : List ℕ) (limit : ℕ) (l : List ℕ) (b₀ b : Buffers) (finished stuck : ℕ) : Type 0 where
   pub upto : 5 * finished ≤ length l

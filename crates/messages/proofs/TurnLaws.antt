@@ -95,7 +95,7 @@ module _ {s : List ℕ} {limit : ℕ} {b : Buffers} (g : Good s limit b) where
       go true l m = refl
       go false l m = refl
 
-  -- ---- each kind by its number
+  -- ---- each kind
 
   -- a legal record by its move, another refused with 12
   edge_either : (t : Bool) (o : Outcome) (m : EdgeMove) → (t ≡ true → settled b o ≡ edge_settled b m)
@@ -115,12 +115,10 @@ module _ {s : List ℕ} {limit : ℕ} {b : Buffers} (g : Good s limit b) where
       edge_either (legal_edge I u e r) (checked I limit (shift (deltas I (costs_of b) (cond turned edge_to_node node_to_edge) u e r) b)) (edge_moved I b.nodes b.edges limit turned u e r)
       (λ t. let (x, y, z, w) = legal_edge_is I u e r t in edge_settled_lem I limit g.sound.sized g.ranged y z turned r)
 
-  pub edge_turn : (kind u e r : ℕ) → 1 ≤ kind → kind < 3 → settled b (effect I limit b (kind_of kind) u e r) ≡ edge_settled b (edge_taken I limit b.nodes b.edges (eqb kind 2) u e r)
-  unfolding kind_of effect legal_message
-  edge_turn zero u e r h k = absurd (omega arith)
-  edge_turn (suc zero) u e r h k = edge_kind false u e r
-  edge_turn (suc (suc zero)) u e r h k = edge_kind true u e r
-  edge_turn (suc (suc (suc n))) u e r h k = absurd (omega arith)
+  pub edge_turn : (turned : Bool) (u e r : ℕ) → settled b (effect I limit b (message (cond turned edge_to_node node_to_edge)) u e r) ≡ edge_settled b (edge_taken I limit b.nodes b.edges turned u e r)
+  unfolding effect legal_message
+  edge_turn true u e r = edge_kind true u e r
+  edge_turn false u e r = edge_kind false u e r
 
   place_in : (u k r : ℕ) → legal_position I u k r ≡ true → first I u + k < node_cells I
   place_in u k r t = let (x, y, z, e) = legal_position_is I u k r t in omega (arith, row_inside I y)
@@ -137,14 +135,10 @@ module _ {s : List ℕ} {limit : ℕ} {b : Buffers} (g : Good s limit b) where
       moved true h = label_settled_lem (first I u + k) (label_given I b.nodes b.labels true u (first I u + k) r) h
       moved false h = label_settled_lem (first I u + k) (label_given I b.nodes b.labels false u (first I u + k) r) h
 
-  pub label_turn : (kind u k r : ℕ) → 3 ≤ kind → kind < 5 → settled b (effect I limit b (kind_of kind) u k r) ≡ label_settled (label_taken I limit b.nodes b.labels (eqb kind 4) u k r)
-  unfolding kind_of effect legal_message
-  label_turn zero u k r h m = absurd (omega arith)
-  label_turn (suc zero) u k r h m = absurd (omega arith)
-  label_turn (suc (suc zero)) u k r h m = absurd (omega arith)
-  label_turn (suc (suc (suc zero))) u k r h m = label_kind false u k r
-  label_turn (suc (suc (suc (suc zero)))) u k r h m = label_kind true u k r
-  label_turn (suc (suc (suc (suc (suc n))))) u k r h m = absurd (omega arith)
+  pub label_turn : (turned : Bool) (u k r : ℕ) → settled b (effect I limit b (message (cond turned label_to_node node_to_label)) u k r) ≡ label_settled (label_taken I limit b.nodes b.labels turned u k r)
+  unfolding effect legal_message
+  label_turn true u k r = label_kind true u k r
+  label_turn false u k r = label_kind false u k r
 
   -- a record has at most one stuck rounding
   pub stuck_once : (kind : Kind) (u k r : ℕ) → (settled b (effect I limit b kind u k r)).stuck ≤ 1
@@ -164,22 +158,7 @@ module _ {s : List ℕ} {limit : ℕ} {b : Buffers} (g : Good s limit b) where
       go (some x) = omega arith
   stuck_once unknown u k r = omega arith
 
--- a number that is no kind
-pub kind_none : (kind : ℕ) → (kind ≡ 0) ⊎ (5 < kind) → kind_of kind ≡ unknown
-unfolding kind_of
-kind_none kind (inl e) = ap kind_of e
-kind_none zero (inr h) = refl
-kind_none (suc (suc (suc (suc (suc (suc n)))))) (inr h) = refl
-kind_none (suc zero) (inr h) = absurd (omega arith)
-kind_none (suc (suc zero)) (inr h) = absurd (omega arith)
-kind_none (suc (suc (suc zero))) (inr h) = absurd (omega arith)
-kind_none (suc (suc (suc (suc zero)))) (inr h) = absurd (omega arith)
-kind_none (suc (suc (suc (suc (suc zero))))) (inr h) = absurd (omega arith)
-
-pub kind-rounding : (kind : ℕ) → kind ≡ 5 → kind_of kind ≡ rounding
-unfolding kind_of
-kind-rounding kind e = ap kind_of e
-
-pub none_turn : (I : Instance) (limit : ℕ) (b : Buffers) (kind u k r : ℕ) → (kind ≡ 0) ⊎ (5 < kind) → settle b 0 12 ≡ settled b (effect I limit b (kind_of kind) u k r)
+-- a kind that does not exist
+pub none_turn : (I : Instance) (limit : ℕ) (b : Buffers) (u k r : ℕ) → settle b 0 12 ≡ settled b (effect I limit b unknown u k r)
 unfolding effect
-none_turn I limit b kind u k r h = ap (λ (m : Kind). settled b (effect I limit b m u k r)) (sym (kind_none kind h))
+none_turn I limit b u k r = refl

@@ -1,5 +1,5 @@
 // Filling a lent buffer with prices of the sheet.
-ghost use Rattle.std.specs.Prelude.{◌≡◌, ◌+◌, ◌*◌, ◌≤◌, length, replicate, pos};
+ghost use Rattle.std.specs.Prelude.{◌≡◌, ◌+◌, ◌*◌, ◌≤◌, length};
 ghost use Rattle.integers.specs.Places.{tabulate};
 ghost use Rattle.instance.specs.Bytes.{price_at};
 

@@ -1,7 +1,6 @@
 // The incumbent: whether its bytes are a matching or none, what a labelling costs on the sheet, and whether it replaces the incumbent.
 ghost use Rattle.std.specs.Prelude.{◌≡◌, ◌<◌, ◌≤◌, true, length, nat_eq, unsigned_abs};
 ghost use Rattle.integers.specs.Places.{every, total};
-ghost use Rattle.instance.specs.Instance.{edge_cells};
 ghost use Rattle.instance.specs.Sheet.{instance_of};
 ghost use Rattle.rules.specs.Costs.{none_kept, Labelling, chosen, chosen_cell, price_of};
 ghost use Rattle.rules.specs.Calls.{is_matching, incumbent_ok};

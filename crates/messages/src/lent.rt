@@ -1,5 +1,5 @@
 // What is lent: the refusals of the lengths, of the costs and of the incumbent.
-ghost use Rattle.std.specs.Prelude.{◌≡◌, ◌≤◌, ◌&&◌, length, ◌==◌};
+ghost use Rattle.std.specs.Prelude.{◌≡◌, ◌≤◌, ◌&&◌, length};
 ghost use Rattle.integers.specs.Places.{every};
 ghost use Rattle.integers.specs.Checks.{within};
 ghost use Rattle.instance.specs.Refusal.{refused_in};

@@ -83,7 +83,7 @@ pub fn run(
     ensures { ran_as (lent nodes.new labels.new edges.new incumbent.new) result ≡ run_of sheet.now cost_limit (lent nodes.old labels.old edges.old incumbent.old) records.now }
 {
     match start(sheet, COST_LIMIT, records, nodes, labels, edges, incumbent) {
-        Ok(run) => run_all(&run, records, nodes, labels, edges, incumbent),
+        Ok(begun) => run_all(&begun, records, nodes, labels, edges, incumbent),
         Err(refusal) => Answer {
             done: 0,
             stuck: 0,

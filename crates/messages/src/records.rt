@@ -74,7 +74,7 @@ impl Record {
 fn legal_share(share: u8) -> bool
     ensures { result ≡ legal_share share }
 {
-    matches!(share, 1..=64)
+    1 <= share && share <= 64
 }
 
 // Whether the share, the node and the edge exist, and the node is an end of the edge.

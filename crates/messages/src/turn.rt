@@ -39,13 +39,13 @@ pub(crate) fn one_record(
     labels: &mut [i64],
     edges: &mut [i64],
     incumbent: &mut [u8],
-    record: &[u8],
+    bytes: &[u8],
 ) -> Result<usize, Refusal>
-    requires room { 5 ≤ length record.now }
+    requires room { 5 ≤ length bytes.now }
     requires good { Good run.now.sheet.bytes.now run.now.limit (lent nodes.old labels.old edges.old incumbent.old) }
-    ensures { settle (lent nodes.new labels.new edges.new incumbent.new) (stuck_in result) (refused_in result) ≡ settled_by (instance_of run.now.sheet.bytes.now) run.now.limit (lent nodes.old labels.old edges.old incumbent.old) record.now }
+    ensures { settle (lent nodes.new labels.new edges.new incumbent.new) (stuck_in result) (refused_in result) ≡ settled_by (instance_of run.now.sheet.bytes.now) run.now.limit (lent nodes.old labels.old edges.old incumbent.old) bytes.now }
 {
-    let Some(step) = Record::of(record) else {
+    let Some(step) = Record::of(bytes) else {
         return Err(Refusal::NoSuchRecord);
     };
     match step.kind {

@@ -18,4 +18,4 @@ loop-l-preserved c =
     rw (same c.plus-sum.result c.plus-sum.type_inv ∙ c.plus-sum.ensures, to_z-of_z {w = w64} {z = x} (search rules)) (added_more c.loop-l.invariant x (c.requires.within c.loop-l.l) refl)
 
 pub returns : goal.returns
-returns c = ?
+returns c = added_all c.loop-l.invariant (omega arith) c.loop-l-test.false

@@ -5,6 +5,7 @@ use Rattle.integers.proofs.Parts.{linear, add, abs}
 use Rattle.integers.proofs.Sum.{abs_add}
 use Rattle.integers.proofs.Bits.{same}
 use Rattle.instance.specs.Sheet.{instance_of}
+use Rattle.instance.proofs.Sheets.{nodes_is, edges_is}
 use Rattle.rules.specs.Costs.{chosen, chosen_cell}
 use Rattle.messages.proofs.IncumbentLaws.{price_parts}
 use Rattle.messages.proofs.incumbent.price.Goals as goal
@@ -20,22 +21,15 @@ module _ (c : After-edge_part) where
   fits : SFits w64 (a +ℤ b)
   fits = omega (linear, add a b, abs a, abs b, c.node_part.ensures.1, c.edge_part.ensures.1)
 
-pub node_part-requires : goal.node_part-requires
-node_part-requires c =
-    record { viewed = (c.requires.seen.viewed, c.requires.seen.begun); labelling = c.requires.labelling }
-
-pub edge_part-requires : goal.edge_part-requires
-edge_part-requires c =
-    record { viewed = (c.requires.seen.viewed, c.requires.seen.tabled); labelling = c.requires.labelling }
-
 pub overflow_add-result : goal.overflow_add-result
 overflow_add-result c = rw (same (a c) c.node_part.type_inv, same (b c) c.edge_part.type_inv) (fits c)
 
 pub returns : goal.returns
 returns c =
-    let J = instance_of c.args.sheet.now.bytes.now in
+    let q = c.args.sheet.now in
+    let J = instance_of q.bytes.now in
     let x = c.args.x.now in
     let e = to_z-of_z (overflow_add-result c) ∙ ap₂ ◌+ℤ◌ (same (a c) c.node_part.type_inv) (same (b c) c.edge_part.type_inv) in (
-      e ∙ price_parts J x (c.node_part.ensures.0 ∙ ap (λ (k : ℕ). total k (λ u. J.node_price (chosen J x u))) c.requires.seen.viewed.nodes) (c.edge_part.ensures.0 ∙ ap (λ (k : ℕ). total k (λ e. J.edge_price (chosen_cell J x e))) c.requires.seen.viewed.edges),
+      e ∙ price_parts J x (c.node_part.ensures.0 ∙ ap (λ (k : ℕ). total k (λ u. J.node_price (chosen J x u))) (nodes_is q)) (c.edge_part.ensures.0 ∙ ap (λ (k : ℕ). total k (λ e. J.edge_price (chosen_cell J x e))) (edges_is q)),
       subst (λ (z : ℤ). nat_abs z ≤ 320_000_000) (sym e) (omega (arith, abs_add (a c) (b c), c.node_part.ensures.1, c.edge_part.ensures.1)),
     )

@@ -21,21 +21,18 @@ module _ (q : Start) where
 
   -- the record's label is not 255
   exclusive-at : exclusive ((instance_of q.args.run.now.sheet.bytes.now).label (q.args.at + q.args.step.index)) ≡ true
-  exclusive-at = rw q.requires.viewed.1.begins q.requires.viewed.1.exclusive
+  exclusive-at = rw q.requires.asked.begins q.requires.asked.exclusive
 
 pub overflow_add-at : goal.overflow_add-at
-overflow_add-at c = omega (arith, place_in c.requires.viewed.1 c.requires.node_fits.1)
+overflow_add-at c = omega (arith, place_in c.requires.asked c.requires.node_fits.1)
 
-pub label_amount-requires : goal.label_amount-requires
-label_amount-requires c =
-    record { viewed = (c.requires.viewed.0, omega (arith, place_in c.requires.viewed.1 c.requires.node_fits.1, c.requires.node_fits.1.size), c.requires.viewed.1.some, exclusive-at (goal.at.label_amount-requires c).Start); holders = c.requires.holders; node_fits = c.requires.node_fits.1 }
+pub label_amount-requires-clause-place : goal.label_amount-requires-clause-place
+label_amount-requires-clause-place c =
+    (omega (arith, place_in c.requires.asked c.requires.node_fits.1, c.requires.node_fits.1.size), c.requires.asked.some, exclusive-at (goal.at.label_amount-requires-clause-place c).Start)
 
 pub minus-requires : goal.minus-requires
 minus-requires c =
     let q = (goal.at.minus-requires c).Start in rw (same c.label_amount.result c.label_amount.type_inv, c.label_amount.ensures) (zero_fits (amount q) (small q))
-
-pub node_amount-requires : goal.node_amount-requires
-node_amount-requires c = record { place_asked = c.requires.viewed.1; node_fits = c.requires.node_fits.0 }
 
 pub returns-then-turned : goal.returns-then-turned
 returns-then-turned c =

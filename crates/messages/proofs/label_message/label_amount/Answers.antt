@@ -4,42 +4,38 @@ use Rattle.integers.specs.Share.{share}
 use Rattle.integers.proofs.Bits.{same, answer}
 use Rattle.instance.specs.Sheet.{instance_of}
 use Rattle.instance.proofs.LaidOut.{label_known_lem}
+use Rattle.instance.proofs.Sheets as sheet
 use Rattle.messages.specs.LabelMessage.{label_rival}
-use Rattle.messages.proofs.SheetLaws.{proper}
 use Rattle.messages.proofs.LabelMessageLaws.{rival_within, label_shared}
-use Rattle.messages.proofs.RivalLaws.{rival_is}
+use Rattle.messages.proofs.RivalLaws.{row_keyed, rival_is}
 use Rattle.messages.proofs.label_message.label_amount.Goals as goal
-use Rattle.messages.proofs.label_message.label_amount.Goals.{After-label-label, After-label_rival}
+use Rattle.messages.proofs.label_message.label_amount.Goals.{After-label, After-label_rival}
 
 -- the label has a row in the index
-row : (l : After-label-label) → l.label-label.result < 64
+row : (l : After-label) → l.label.result < 64
 row l =
-    let good = proper l.args.run.now.sheet.bytes.now l.requires.viewed.0.readable in
-    omega (arith, l.label-label.ensures.0, label_known_lem good l.args.place l.requires.viewed.1 l.requires.viewed.3, good.labels_few)
+    let good = sheet.proper l.args.run.now.sheet in
+    omega (arith, l.label.ensures.0, label_known_lem good l.args.place l.requires.place.0 l.requires.place.2, good.labels_few)
 
 rival : (p : After-label_rival) → (let a = p.args in p.label_rival.result ≡ label_rival (instance_of a.run.now.sheet.bytes.now) a.labels.now a.place)
 rival p =
     let a = p.args in
-    let l = p.label-label in
-    p.label_rival.ensures ∙ rival_is (instance_of a.run.now.sheet.bytes.now) p.requires.holders a.labels.now a.place l.result (row (goal.at.After-label_rival p).After-label-label) l.ensures.0
+    p.label_rival.ensures
+    ∙ rival_is (instance_of a.run.now.sheet.bytes.now) a.run.now.held a.labels.now a.place (row (goal.at.After-label_rival p).After-label) p.label.ensures.0 p.row-places.ensures.things
 
-pub offset_bounds-labels-place : goal.offset_bounds-labels-place
-offset_bounds-labels-place c = omega (arith, c.requires.viewed.1, c.requires.node_fits.size)
-
-pub bounds-labels-place : goal.bounds-labels-place
-bounds-labels-place c = omega (arith, c.requires.viewed.1, c.requires.node_fits.size)
+pub row-places-requires : goal.row-places-requires
+row-places-requires c = row c
 
 pub label_rival-requires : goal.label_rival-requires
 label_rival-requires c =
-    let l = c.label-label in
-    let x = c.requires.holders in
-    record { label_bound = (row (goal.at.label_rival-requires c).After-label-label, x.few l.result (row (goal.at.label_rival-requires c).After-label-label)); by_index = λ j h. omega (arith, x.inside l.result j (row (goal.at.label_rival-requires c).After-label-label) h, c.requires.node_fits.size) }
+    λ j h. omega (arith, (row_keyed c.args.run.now.held (row (goal.at.label_rival-requires c).After-label) c.row-places.ensures.things h).1, c.requires.node_fits.size)
 
-pub share_of-requires : goal.share_of-requires
-share_of-requires c =
+pub share_of-requires-clause-cost_bound : goal.share_of-requires-clause-cost_bound
+share_of-requires-clause-cost_bound c =
     let a = c.args in
     let l = a.labels.now in
-    let h = c.requires.node_fits.range in record { le_r = c.requires.viewed.2; cost_bound = rw (to_z-of_z {w = w64} {z = get_or l a.place (pos 0)} (search rules), same c.label_rival.result c.label_rival.type_inv, rival c) (h a.place, rival_within (instance_of a.run.now.sheet.bytes.now) l h a.place) }
+    let h = c.requires.node_fits.range in
+    rw (to_z-of_z {w = w64} {z = get_or l a.place (pos 0)} (search rules), same c.label_rival.result c.label_rival.type_inv, rival c) (h a.place, rival_within (instance_of a.run.now.sheet.bytes.now) l h a.place)
 
 pub returns : goal.returns
 returns c =

@@ -4,9 +4,7 @@ use Rattle.integers.specs.Least.{without}
 use Rattle.integers.specs.Rows.{part}
 use Rattle.integers.specs.Share.{amount}
 use Rattle.integers.proofs.Bits.{same}
-use Rattle.integers.proofs.Rows.{length_part, within_part}
 use Rattle.instance.specs.Sheet.{instance_of}
-use Rattle.rules.specs.Calls.{cost_limit}
 use Rattle.messages.proofs.LabelMessageLaws.{row_in, node_given}
 use Rattle.messages.proofs.label_message.node_amount.Goals as goal
 use Rattle.messages.proofs.label_message.node_amount.Goals.{After-degree, Start}
@@ -30,14 +28,6 @@ offset_bounds-nodes-at c = omega (arith, row c)
 
 pub slice_bounds-amount_of-end : goal.slice_bounds-amount_of-end
 slice_bounds-amount_of-end c = row c
-
-pub amount_of-requires : goal.amount_of-requires
-amount_of-requires c =
-    let q = start (goal.at.amount_of-requires c).After-degree in
-    let l = q.args.nodes.now in
-    let d = (instance_of q.args.sheet.now.bytes.now).degree q.args.step.node in
-    rw (size (goal.at.amount_of-requires c).After-degree)
-    record { k_in_bounds = omega (arith, q.requires.place_asked.position, length_part l q.args.at d (row_in q.requires.place_asked q.requires.node_fits)); le_share = q.requires.place_asked.some; within = within_part cost_limit q.args.at d l q.requires.node_fits.range }
 
 pub returns : goal.returns
 returns c =

@@ -2,17 +2,9 @@
 use Rattle.std.proofs.Common.{◌≡◌, get_or, pos, ◌+ℤ◌, ◌-ℤ◌, sym, ap, ◌∙◌, ap₂, to_z-of_z, w64, to_z, of_z, rules}
 use Rattle.integers.specs.Checks.{within}
 use Rattle.integers.proofs.Bits.{same}
-use Rattle.messages.proofs.LabelMessageLaws.{minus_fits, plus_fits, moved_both, moved_not}
+use Rattle.messages.proofs.LabelMessageLaws.{moved_both, moved_not}
 use Rattle.messages.proofs.label_message.shift_label.Goals as goal
 use Rattle.messages.proofs.label_message.shift_label.Goals.{After-plus-label, Start}
-
-pub minus-node-requires : goal.minus-node-requires
-minus-node-requires c =
-    rw (to_z-of_z {w = w64} {z = get_or c.args.nodes.now c.args.i (pos 0)} (search rules), to_z-of_z c.ranges.p) (minus_fits (get_or c.args.nodes.now c.args.i (pos 0)) c.args.p (c.requires.within c.args.i) c.requires.p_bound)
-
-pub plus-label-requires : goal.plus-label-requires
-plus-label-requires c =
-    rw (to_z-of_z {w = w64} {z = get_or c.args.labels.now c.args.i (pos 0)} (search rules), to_z-of_z c.ranges.p) (plus_fits (get_or c.args.labels.now c.args.i (pos 0)) c.args.p (c.requires.within_2 c.args.i) c.requires.p_bound)
 
 -- both costs as they would be
 module _ (p : After-plus-label) where

@@ -1,28 +1,26 @@
 -- `run_all` meets its contract: the run so far and the rest of it are the whole run.
-use Rattle.std.proofs.Common.{◌≡◌, ℕ, ◌+◌, ◌^◌, ◌<◌, ◌≤◌, List, length, drop, sym, ap, ◌∙◌, arith}
-use Rattle.integers.proofs.Rows.{tail_part}
+use Rattle.std.proofs.Common.{◌≡◌, ℕ, ◌+◌, ◌*◌, ◌-◌, ◌/◌, ◌<◌, ◌≤◌, List, length, get_or, take, drop, sym, refl, ap, ◌∙◌, arith}
 use Rattle.instance.specs.Instance.{Instance}
 use Rattle.instance.specs.Sheet.{instance_of}
-use Rattle.rules.specs.Costs.{Buffers, Sized}
+use Rattle.instance.proofs.Told.{numbered}
+use Rattle.rules.specs.Costs.{Buffers}
 use Rattle.rules.specs.Run.{step}
 use Rattle.messages.specs.Lent.{lent}
-use Rattle.messages.specs.Records.{head_of}
-use Rattle.messages.specs.Step.{settle, settled, settled_by}
-use Rattle.messages.proofs.RunLaws.{record_of, going_start, going_sized, going_end, going_room, going_bytes, going_refused, going_few, going_next}
+use Rattle.messages.specs.Step.{settled, settled_by}
+use Rattle.messages.proofs.RunLaws.{ran_of, record_of, going_start, going_end, going_refused, going_few, going_next, five_bytes}
 use Rattle.messages.proofs.list.run_all.Goals as goal
-use Rattle.messages.proofs.list.run_all.Goals.{After-one_record-taken, At-loop-at, In-loop-at, Start}
+use Rattle.messages.proofs.list.run_all.Goals.{After-one_record, At-loop-done, In-loop-done, Start}
 
--- what is lent first
-abbrev lends : Start → Buffers
-lends q = lent q.args.nodes.now q.args.labels.now q.args.edges.now q.args.incumbent.now
+-- a record was taken
+module _ (p : After-one_record) where
+  abbrev turn : In-loop-done
+  turn = (goal.at.After-one_record p).In-loop-done
 
-sizes : (q : Start) → Sized (instance_of q.args.run.now.sheet.bytes.now) (lends q)
-sizes q = q.requires.good.sound.sized
+  abbrev head : At-loop-done
+  head = (goal.at.In-loop-done turn).At-loop-done
 
--- at the head of the loop
-module _ (h : At-loop-at) where
   abbrev start : Start
-  start = (goal.at.At-loop-at h).Start
+  start = (goal.at.At-loop-done head).Start
 
   abbrev I : Instance
   I = instance_of start.args.run.now.sheet.bytes.now
@@ -31,107 +29,48 @@ module _ (h : At-loop-at) where
   l = start.args.records.now
 
   abbrev limit : ℕ
-  limit = start.args.run.now.sheet.limit
+  limit = start.args.run.now.limit
+
+  abbrev at : ℕ
+  at = 5 * head.loop-done.done
 
   abbrev b : Buffers
-  b = lent h.loop-at.nodes h.loop-at.labels h.loop-at.edges h.loop-at.incumbent
-
-  short : length l < 2 ^ 64
-  short = omega (arith, start)
-
--- a record was taken
-module _ (p : After-one_record-taken) where
-  abbrev turn : In-loop-at
-  turn = (goal.at.After-one_record-taken p).In-loop-at
-
-  abbrev head : At-loop-at
-  head = (goal.at.In-loop-at turn).At-loop-at
+  b = lent head.loop-done.nodes head.loop-done.labels head.loop-done.edges head.loop-done.incumbent
 
   abbrev left : Buffers
-  left = lent p.one_record-taken.new.nodes p.one_record-taken.new.labels p.one_record-taken.new.edges p.one_record-taken.new.incumbent
+  left = lent p.one_record.new.nodes p.one_record.new.labels p.one_record.new.edges p.one_record.new.incumbent
 
-  more : head.loop-at.at < length (l head)
-  more = turn.loop-at-test.true
+  more : at < length l
+  more = omega (arith, turn.loop-done-test.true)
 
-  told : settle left p.one_record-taken.result.stuck p.one_record-taken.result.refusal ≡ settled (b head) (step (I head) (limit head) (b head) (record_of (drop head.loop-at.at (l head))))
-  told =
-      p.one_record-taken.ensures
-      ∙ ap (settled_by (I head) (limit head) (b head)) (p.record_of-step.ensures ∙ ap head_of (tail_part head.loop-at.at (l head)))
+  room : at + 5 ≤ length l
+  room = omega (arith, turn.loop-done-test.true)
 
-  sized : Sized (I head) left
-  sized = going_sized head.loop-at.invariant more told
+  bytes : settled_by I limit b (take (at + 5 - at) (drop at l)) ≡ settled b (step I limit b (record_of (drop at l)))
+  bytes = five_bytes I limit b l at
 
-  few : p.one_record-taken.result.stuck ≤ 1
-  few = going_few head.loop-at.invariant more told
-
-  room : head.loop-at.at + 5 ≤ length (l head)
-  room = going_room head.loop-at.invariant more
-
-pub loop-at-init : goal.loop-at-init
-loop-at-init c =
-    going_start c.args.run.now.sheet.bytes.now c.args.run.now.sheet.limit c.args.records.now (lends (goal.at.loop-at-init c).Start) c.requires.good c.requires.records_len
-
-pub record_of-step-requires : goal.record_of-step-requires
-record_of-step-requires c =
-    rw (tail_part c.loop-at.at (l (goal.at.record_of-step-requires c).At-loop-at)) (going_bytes c.loop-at.invariant c.loop-at-test.true)
-
-pub one_record-taken-requires : goal.one_record-taken-requires
-one_record-taken-requires c =
-    let q = start (goal.at.one_record-taken-requires c).At-loop-at in record { seen = q.requires.seen; holders = q.requires.holders; good = c.loop-at.invariant.good }
-
-pub shape_of-nodes-then-taken-ne-NONE : goal.shape_of-nodes-then-taken-ne-NONE
-shape_of-nodes-then-taken-ne-NONE c =
-    let p = (goal.at.shape_of-nodes-then-taken-ne-NONE c).After-one_record-taken in (sized p).nodes ∙ sym (sizes (start (head p))).nodes
-
-pub shape_of-labels-then-taken-ne-NONE : goal.shape_of-labels-then-taken-ne-NONE
-shape_of-labels-then-taken-ne-NONE c =
-    let p = (goal.at.shape_of-labels-then-taken-ne-NONE c).After-one_record-taken in (sized p).labels ∙ sym (sizes (start (head p))).labels
-
-pub shape_of-edges-then-taken-ne-NONE : goal.shape_of-edges-then-taken-ne-NONE
-shape_of-edges-then-taken-ne-NONE c =
-    let p = (goal.at.shape_of-edges-then-taken-ne-NONE c).After-one_record-taken in (sized p).edges ∙ sym (sizes (start (head p))).edges
-
-pub shape_of-incumbent-then-taken-ne-NONE : goal.shape_of-incumbent-then-taken-ne-NONE
-shape_of-incumbent-then-taken-ne-NONE c =
-    let p = (goal.at.shape_of-incumbent-then-taken-ne-NONE c).After-one_record-taken in (sized p).incumbent ∙ sym (sizes (start (head p))).incumbent
-
-pub returns-then-taken-ne-NONE : goal.returns-then-taken-ne-NONE
-returns-then-taken-ne-NONE c =
-    let p = (goal.at.returns-then-taken-ne-NONE c).After-one_record-taken in going_refused (head p).loop-at.invariant (more p) (told p) c.if-taken-ne-NONE.true
+pub loop-done-init : goal.loop-done-init
+loop-done-init c =
+    let a = c.args in going_start a.run.now.sheet.bytes.now a.run.now.limit a.records.now (lent a.nodes.now a.labels.now a.edges.now a.incumbent.now) c.requires.good c.requires.whole
 
 pub overflow_add-stuck : goal.overflow_add-stuck
 overflow_add-stuck c =
-    let p = (goal.at.overflow_add-stuck c).After-one_record-taken in let i = (head p).loop-at.invariant in omega (arith, few p, short (head p), room p, i.few, i.place, i.upto)
+    let p = (goal.at.overflow_add-stuck c).After-one_record in
+    let i = (head p).loop-done.invariant in
+    omega (arith, going_few i (more p) (c.in-Ok.ensures ∙ bytes p), i.few, room p, c.well_formed)
 
-pub overflow_add-done : goal.overflow_add-done
-overflow_add-done c =
-    let p = (goal.at.overflow_add-done c).After-one_record-taken in omega (arith, short (head p), room p, (head p).loop-at.invariant.place)
+pub returns-in-Err : goal.returns-in-Err
+returns-in-Err c =
+    let p = (goal.at.returns-in-Err c).After-one_record in
+    going_refused (head p).loop-done.invariant (more p) (c.in-Err.ensures ∙ bytes p) (λ z. omega (arith, numbered c.in-Err.refusal))
 
-pub overflow_add-at : goal.overflow_add-at
-overflow_add-at c = let p = (goal.at.overflow_add-at c).After-one_record-taken in omega (arith, short (head p), room p)
-
-pub loop-at-smaller : goal.loop-at-smaller
-loop-at-smaller c = omega (arith, room (goal.at.loop-at-smaller c).After-one_record-taken)
-
-pub loop-at-preserved : goal.loop-at-preserved
-loop-at-preserved c =
-    let p = (goal.at.loop-at-preserved c).After-one_record-taken in going_next (head p).loop-at.invariant (more p) (told p) c.if-taken-ne-NONE.false
-
-pub shape_of-nodes : goal.shape_of-nodes
-shape_of-nodes c =
-    c.loop-at.invariant.good.sound.sized.nodes ∙ sym (sizes (start (goal.at.shape_of-nodes c).At-loop-at)).nodes
-
-pub shape_of-labels : goal.shape_of-labels
-shape_of-labels c =
-    c.loop-at.invariant.good.sound.sized.labels ∙ sym (sizes (start (goal.at.shape_of-labels c).At-loop-at)).labels
-
-pub shape_of-edges : goal.shape_of-edges
-shape_of-edges c =
-    c.loop-at.invariant.good.sound.sized.edges ∙ sym (sizes (start (goal.at.shape_of-edges c).At-loop-at)).edges
-
-pub shape_of-incumbent : goal.shape_of-incumbent
-shape_of-incumbent c =
-    c.loop-at.invariant.good.sound.sized.incumbent ∙ sym (sizes (start (goal.at.shape_of-incumbent c).At-loop-at)).incumbent
+pub loop-done-preserved : goal.loop-done-preserved
+loop-done-preserved c =
+    let p = (goal.at.loop-done-preserved c).After-one_record in
+    going_next (head p).loop-done.invariant (more p) (c.in-Ok.ensures ∙ bytes p) refl
 
 pub returns : goal.returns
-returns c = going_end c.loop-at.invariant c.loop-at-test.false
+returns c =
+    let n : c.loop-done.done ≡ length c.args.records.now / 5 = omega arith in
+    ap (λ (k : ℕ). ran_of (lent c.loop-done.nodes c.loop-done.labels c.loop-done.edges c.loop-done.incumbent) k c.loop-done.stuck 0) (sym n)
+    ∙ going_end c.loop-done.invariant (omega (arith, c.loop-done-test.false, c.requires.whole))

@@ -1,61 +1,54 @@
--- `run_good` meets its contract: what reading answered is what a run asks.
-use Rattle.std.proofs.Common.{◌≡◌, ℕ, List, sym, ap, ◌∙◌, subst}
-use Rattle.instance.specs.Sheet.{instance_of}
-use Rattle.instance.proofs.LaidOut.{refusal_is}
+-- `start` meets its contract: the sheet, what is lent, and then the list.
+use Rattle.std.proofs.Common.{◌≡◌, ℕ, ◌≤◌, List, sym, ap, ◌∙◌, arith, Bor}
+use Rattle.std.proofs.lemmas.Result.{err_from_is_err_and}
+use Rattle.instance.specs.Refusal.{number, refused_in}
+use Rattle.instance.proofs.Told.{numbered}
 use Rattle.rules.specs.Costs.{Buffers}
-use Rattle.rules.specs.Run.{run_list}
-use Rattle.messages.specs.declared.view.View.{View}
+use Rattle.rules.specs.Calls.{lent_refusal, run_refusal}
 use Rattle.messages.specs.Lent.{lent}
-use Rattle.messages.specs.Seen.{Seen}
-use Rattle.messages.specs.Turn.{Good}
-use Rattle.messages.proofs.LentLaws.{LentWell, lent_well, laid, seen_of}
-use Rattle.messages.proofs.TurnLaws.{good_of}
+use Rattle.messages.proofs.LentLaws.{lent_unread}
+use Rattle.messages.proofs.RunLaws.{run_unread, run_partial, run_begins}
 use Rattle.messages.proofs.list.start.Goals as goal
-use Rattle.messages.proofs.list.start.Goals.{After-view_of-view, Start}
+use Rattle.messages.proofs.list.start.Goals.{In_ok-sheet, Start}
 
-module _ (q : Start) where
-  abbrev sheet : List ℕ
-  sheet = q.args.sheet.now
+abbrev lends : Start → Buffers
+lends q = lent q.args.nodes.now q.args.labels.now q.args.edges.now q.args.incumbent.now
 
-  abbrev lends : Buffers
-  lends = lent q.args.nodes.now q.args.labels.now q.args.edges.now q.args.incumbent.now
+pub returns-in_err-sheet-clause-refusal : goal.returns-in_err-sheet-clause-refusal
+returns-in_err-sheet-clause-refusal c =
+    let q = (goal.at.returns-in_err-sheet-clause-refusal c).Start in
+    let a = q.args in
+    let (y, r, e) = err_from_is_err_and c.from_residual.result c.from_residual.ensures.1 in
+    let n = c.in_err-sheet.ensures.refusal in
+    let m = numbered c.in_err-sheet.field-0.0 in
+    let u = n ∙ lent_unread a.sheet.now a.limit (lends q) (λ z. omega (arith, n, m)) in
+    ap refused_in r ∙ ap number e ∙ u ∙ run_unread a.sheet.now a.limit (lends q) a.records.now (λ z. omega (arith, u, m))
 
-  well : LentWell sheet q.args.limit lends
-  well = lent_well sheet q.args.limit lends q.requires.incumbent_value
-
-  unread : q.args.layout.refusal ≡ 0
-  unread = refusal_is sheet q.requires.layout_value.0 ∙ well.readable
-
--- the view
-module _ (v : After-view_of-view) where
+-- a sheet that was read, by the bytes that were given
+module _ (p : In_ok-sheet) where
   abbrev start : Start
-  start = (goal.at.After-view_of-view v).Start
+  start = (goal.at.In_ok-sheet p).Start
 
-  seen : Seen (sheet start) v.view_of-view.result start.args.layout.starts start.args.layout.tables
-  seen =
-      subst (λ (x : View). Seen (sheet start) x start.args.layout.starts start.args.layout.tables) (sym v.view_of-view.ensures)
-      (seen_of (sheet start) start.requires.layout_value.0 (unread start) start.args.limit start.requires.layout_value.1)
+  over : lent_refusal p.in_ok-sheet.sheet.bytes.now start.args.limit (lends start) ≡ lent_refusal start.args.sheet.now start.args.limit (lends start)
+  over = ap (λ (b : Bor (List ℕ)). lent_refusal b.now start.args.limit (lends start)) p.in_ok-sheet.ensures.same
 
-  limited : start.args.limit ≡ v.view_of-view.result.limit
-  limited = ap (λ (x : View). x.limit) (sym v.view_of-view.ensures)
+pub returns-in_err-check_lent-clause-refusal : goal.returns-in_err-check_lent-clause-refusal
+returns-in_err-check_lent-clause-refusal c =
+    let p = (goal.at.returns-in_err-check_lent-clause-refusal c).In_ok-sheet in let q = start p in
+    let a = q.args in
+    let (y, r, e) = err_from_is_err_and c.from_residual-in_err-check_lent.result c.from_residual-in_err-check_lent.ensures.1 in
+    let m = numbered c.in_err-check_lent.field-0.0 in
+    let u = c.in_err-check_lent.ensures ∙ over p in
+    ap refused_in r ∙ ap number e ∙ u ∙ run_unread a.sheet.now a.limit (lends q) a.records.now (λ z. omega (arith, u, m))
 
-  good : Good (sheet start) v.view_of-view.result.limit (lends start)
-  good = subst (λ (k : ℕ). Good (sheet start) k (lends start)) limited (good_of (sheet start) start.args.limit (lends start) (well start))
+pub returns-then-records-ne0-clause-refusal : goal.returns-then-records-ne0-clause-refusal
+returns-then-records-ne0-clause-refusal c =
+    let p = (goal.at.returns-then-records-ne0-clause-refusal c).In_ok-sheet in let q = start p in
+    let a = q.args in
+    run_partial a.sheet.now a.limit (lends q) a.records.now (sym (c.in_ok-check_lent.ensures ∙ over p)) c.if-records-ne0.true
 
-pub view_of-view-requires : goal.view_of-view-requires
-view_of-view-requires c =
-    let q = (goal.at.view_of-view-requires c).Start in let d = laid (sheet q) c.requires.layout_value.0 (unread q) in (d.nodes_few, d.positions_few, d.edges_few)
-
-pub holders_of-holders-requires : goal.holders_of-holders-requires
-holders_of-holders-requires c = (seen (goal.at.holders_of-holders-requires c).After-view_of-view).viewed
-
-pub lowers_of-lowers-requires : goal.lowers_of-lowers-requires
-lowers_of-lowers-requires c = (seen (goal.at.lowers_of-lowers-requires c).After-view_of-view).viewed
-
-pub run_all-requires : goal.run_all-requires
-run_all-requires c =
-    let v = (goal.at.run_all-requires c).After-view_of-view in record { seen = seen v; holders = (c.holders_of-holders.ensures, c.lowers_of-lowers.ensures); good = good v; records_len = (start v).requires.records_len }
-
-pub returns : goal.returns
-returns c =
-    let v = (goal.at.returns c).After-view_of-view in c.run_all.ensures ∙ ap (λ (k : ℕ). run_list (instance_of (sheet (start v))) k (lends (start v)) (start v).args.records.now) (sym (limited v))
+pub returns-clause-refusal : goal.returns-clause-refusal
+returns-clause-refusal c =
+    let p = (goal.at.returns-clause-refusal c).In_ok-sheet in let q = start p in
+    let a = q.args in
+    run_begins a.sheet.now a.limit (lends q) a.records.now (sym (c.in_ok-check_lent.ensures ∙ over p)) c.if-records-ne0.false

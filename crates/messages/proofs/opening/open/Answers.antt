@@ -1,74 +1,71 @@
 -- `open` meets its contract: refused, nothing is altered; else the four buffers are filled from the sheet.
-use Rattle.std.proofs.Common.{◌≡◌, ℕ, true, List, sym, ap, ◌∙◌, subst, arith}
-use Rattle.instance.specs.declared.reading.Layout.{Layout}
-use Rattle.instance.specs.Sheet.{instance_of}
-use Rattle.instance.specs.Layout.{layout_of}
-use Rattle.instance.proofs.LaidOut.{LaidOut, refusal_is}
+use Rattle.std.proofs.Common.{◌≡◌, ℕ, ◌+◌, ◌*◌, ◌≤◌, true, List, length, Bor, sym, ap, ◌∙◌, arith}
+use Rattle.std.proofs.lemmas.Result.{err_from_is_err_and}
+use Rattle.instance.specs.Sheet.{instance_of, refusal_of}
+use Rattle.instance.specs.Refusal.{number, refused_in}
+use Rattle.instance.specs.Instance.{first}
+use Rattle.instance.specs.declared.sheet.Sheet.{Sheet}
+use Rattle.instance.proofs.Told.{numbered}
+use Rattle.instance.proofs.Sheets.{whole}
 use Rattle.rules.specs.Costs.{Buffers}
-use Rattle.rules.specs.Calls.{lengths_ok, cost_limit}
-use Rattle.messages.specs.declared.view.View.{View}
+use Rattle.rules.specs.Calls.{lengths_ok, open_of}
 use Rattle.messages.specs.Lent.{lent, opens}
-use Rattle.messages.specs.Seen.{Viewed}
-use Rattle.rules.proofs.Opening.{lengths_by, lengths_are, open_unread, open_unfit, open_fills, filled_opened}
-use Rattle.messages.proofs.LentLaws.{unrefused, laid, viewed_of}
+use Rattle.rules.proofs.Opening.{lengths_are, open_unread, open_unfit, open_fills, filled_opened}
+use Rattle.messages.proofs.LentLaws.{lengths_by}
 use Rattle.messages.proofs.opening.open.Goals as goal
-use Rattle.messages.proofs.opening.open.Goals.{After-view_of-view, Else-layout-ne-NONE, Start, Then-lengths_agree}
+use Rattle.messages.proofs.opening.open.Goals.{Else-not-lengths_agree, In_ok-sheet, Start}
 
 -- the buffers as they were lent
 abbrev started : Start → Buffers
 started q = lent q.args.nodes.now q.args.labels.now q.args.edges.now q.args.incumbent.now
 
--- past the sheet's refusal
-module _ (p : Else-layout-ne-NONE) where
-  abbrev start : Start
-  start = (goal.at.Else-layout-ne-NONE p).Start
-
-  abbrev sheet : List ℕ
-  sheet = start.args.sheet.now
-
-  abbrev layout : Layout
-  layout = p.read-layout.result
-
-  abbrev read : layout ≡ layout_of sheet
-  read = p.read-layout.ensures
-
-  sections : LaidOut sheet layout
-  sections = laid sheet read p.if-layout-ne-NONE.false
+-- a sheet that was read
+same : (p : In_ok-sheet) → p.in_ok-sheet.sheet.bytes.now ≡ p.args.sheet.now
+same p = ap (λ (b : Bor (List ℕ)). b.now) p.in_ok-sheet.ensures.same
 
 -- past the lengths
-module _ (p : Then-lengths_agree) where
-  abbrev good : Else-layout-ne-NONE
-  good = (goal.at.Then-lengths_agree p).Else-layout-ne-NONE
+module _ (p : Else-not-lengths_agree) where
+  abbrev start : Start
+  start = (goal.at.Else-not-lengths_agree p).Start
 
-  agreed : lengths_ok (instance_of (sheet good)) (started (start good)) ≡ true
-  agreed = lengths_by (sheet good) (started (start good)) (sections good) ∙ sym p.lengths_agree.ensures ∙ p.if-lengths_agree.true
+  abbrev x : Sheet
+  x = p.in_ok-sheet.sheet
 
-viewed : (p : After-view_of-view) → Viewed (sheet (good (goal.at.After-view_of-view p).Then-lengths_agree)) p.view_of-view.result
-viewed p = let g = good (goal.at.After-view_of-view p).Then-lengths_agree in subst (Viewed (sheet g)) (sym p.view_of-view.ensures) (viewed_of (sheet g) (read g) g.if-layout-ne-NONE.false cost_limit (omega arith))
+  agreed : lengths_ok (instance_of x.bytes.now) (started start) ≡ true
+  agreed = lengths_by x (started start) ∙ sym p.lengths_agree.ensures ∙ p.if-not-lengths_agree.false
 
-pub returns-then-layout-ne-NONE : goal.returns-then-layout-ne-NONE
-returns-then-layout-ne-NONE c =
-    let s = c.args.sheet.now in
-    let n = refusal_is s c.read-layout.ensures in
-    ap (opens (started (goal.at.returns-then-layout-ne-NONE c).Start)) n ∙ open_unread s (started (goal.at.returns-then-layout-ne-NONE c).Start) (λ z. c.if-layout-ne-NONE.true (n ∙ z))
+  nodes_inside : x.prices + 4 * length p.args.nodes.now ≤ length x.bytes.now
+  unfolding first instance_of
+  nodes_inside = omega (arith, (lengths_are x.bytes.now (started start) agreed).0, x.placed.0, (whole x).whole)
 
-pub view_of-view-requires : goal.view_of-view-requires
-view_of-view-requires c = let d = sections (good c) in (d.nodes_few, d.positions_few, d.edges_few)
+  edges_inside : x.edge_prices + 4 * length p.args.edges.now ≤ length x.bytes.now
+  unfolding first instance_of
+  edges_inside = omega (arith, (lengths_are x.bytes.now (started start) agreed).2, x.placed.2, (whole x).whole)
 
-pub fill-requires : goal.fill-requires
-fill-requires c =
-    let g = good (goal.at.fill-requires c).Then-lengths_agree in
-    let (l1, l2, l3, l4) = lengths_are (sheet g) (started (start g)) (agreed (goal.at.fill-requires c).Then-lengths_agree) in
-    let d = sections g in
-    (omega (arith, ap (λ (x : View). x.prices) c.view_of-view.ensures, d.sound.whole, d.nodes, d.positions), omega (arith, ap (λ (x : View). x.cells) c.view_of-view.ensures, d.sound.whole, d.nodes, d.positions, d.edges))
+pub returns-in_err-sheet : goal.returns-in_err-sheet
+returns-in_err-sheet c =
+    let b = started (goal.at.returns-in_err-sheet c).Start in
+    let (y, r, q) = err_from_is_err_and c.from_residual.result c.from_residual.ensures.1 in
+    let z : refusal_of c.args.sheet.now ≡ 0 → ⊥ = λ z. omega (arith, numbered c.in_err-sheet.field-0.0, c.in_err-sheet.ensures.refusal) in
+    ap (opens b) (ap refused_in r ∙ ap number q ∙ c.in_err-sheet.ensures.refusal) ∙ open_unread c.args.sheet.now b z
 
-pub returns-then-lengths_agree : goal.returns-then-lengths_agree
-returns-then-lengths_agree c =
-    let v = (goal.at.returns-then-lengths_agree c).After-view_of-view in let t = (goal.at.returns-then-lengths_agree c).Then-lengths_agree in let g = good t in
-    let e = c.fill.ensures in
-    ap (λ (b : Buffers). opens b 0) (filled_opened (sheet g) (started (start g)) (viewed v).prices (viewed v).cells (agreed t) e.nodes_after e.labels_after e.edges_after e.incumbent_after)
-    ∙ open_fills (sheet g) (started (start g)) (unrefused (sheet g) (read g) g.if-layout-ne-NONE.false) (agreed t)
+pub returns-then-not-lengths_agree : goal.returns-then-not-lengths_agree
+returns-then-not-lengths_agree c =
+    let x = c.in_ok-sheet.sheet in
+    let b = started (goal.at.returns-then-not-lengths_agree c).Start in
+    open_unfit x.bytes.now b x.readable (lengths_by x b ∙ sym c.lengths_agree.ensures ∙ c.if-not-lengths_agree.true)
+    ∙ ap (λ (s : List ℕ). open_of s b) (same (goal.at.returns-then-not-lengths_agree c).In_ok-sheet)
 
-pub returns-else-lengths_agree : goal.returns-else-lengths_agree
-returns-else-lengths_agree c =
-    let g = (goal.at.returns-else-lengths_agree c).Else-layout-ne-NONE in open_unfit (sheet g) (started (start g)) (unrefused (sheet g) (read g) c.if-layout-ne-NONE.false) (lengths_by (sheet g) (started (start g)) (sections g) ∙ sym c.lengths_agree.ensures ∙ c.if-lengths_agree.false)
+pub fill_prices-requires : goal.fill_prices-requires
+fill_prices-requires c = nodes_inside (goal.at.fill_prices-requires c).Else-not-lengths_agree
+
+pub fill_prices-requires-2 : goal.fill_prices-requires-2
+fill_prices-requires-2 c = edges_inside (goal.at.fill_prices-requires-2 c).Else-not-lengths_agree
+
+pub returns : goal.returns
+returns c =
+    let p = (goal.at.returns c).Else-not-lengths_agree in
+    let x = c.in_ok-sheet.sheet in
+    let b = started (goal.at.returns c).Start in
+    ap (λ (b : Buffers). opens b 0) (filled_opened x.bytes.now b x.placed.0 x.placed.2 (agreed p) c.fill_prices.ensures (c.fill.ensures.after (λ y e. e)) c.fill_prices-2.ensures (c.fill-2.ensures.after (λ y e. e)))
+    ∙ open_fills x.bytes.now b x.readable (agreed p) ∙ ap (λ (s : List ℕ). open_of s b) (same (goal.at.returns c).In_ok-sheet)

@@ -14,13 +14,13 @@ pub returns-then-cost-bound : goal.returns-then-cost-bound
 returns-then-cost-bound c =
     against_over c.args.bound c.args.cost (sym (tested (goal.at.returns-then-cost-bound c).Start) ∙ c.if-cost-bound.true)
 
-pub minus-gap-requires : goal.minus-gap-requires
-minus-gap-requires c =
+pub minus-requires : goal.minus-requires
+minus-requires c =
     rw (to_z-of_z c.ranges.cost, to_z-of_z c.ranges.bound) (gap_fits c.args.bound c.args.cost c.requires.0 c.requires.1)
 
 pub returns : goal.returns
 returns c =
     let z = to_z-of_z c.ranges.bound in
     let p = to_z-of_z c.ranges.cost in
-    let g = same c.minus-gap.result c.minus-gap.type_inv ∙ c.minus-gap.ensures ∙ ap₂ ◌-ℤ◌ p z in
+    let g = same c.minus.result c.minus.type_inv ∙ c.minus.ensures ∙ ap₂ ◌-ℤ◌ p z in
     (λ j. kept (z j) (p j) (g j)) ∙ against-kept c.args.bound c.args.cost (sym (tested (goal.at.returns c).Start) ∙ c.if-cost-bound.false)

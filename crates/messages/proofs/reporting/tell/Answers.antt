@@ -1,16 +1,14 @@
 -- `tell` meets its contract: what was lent is good, so the bound counts, and one that is kept has a price.
-use Rattle.std.proofs.Common.{◌≡◌, ℕ, List, sym, ap, ◌∙◌, subst, ap₂}
+use Rattle.std.proofs.Common.{◌≡◌, ℕ, ◌≤◌, List, sym, ap, ◌∙◌, ap₂, arith}
 use Rattle.integers.proofs.Bits.{same}
 use Rattle.instance.specs.Sheet.{instance_of}
-use Rattle.instance.proofs.LaidOut.{refusal_is}
 use Rattle.rules.specs.Costs.{Buffers}
 use Rattle.rules.specs.Calls as calls
-use Rattle.messages.specs.declared.view.View.{View}
+use Rattle.rules.specs.Calls.{cost_limit}
 use Rattle.messages.specs.Lent.{lent}
-use Rattle.messages.specs.Seen.{view_of, Seen}
 use Rattle.messages.specs.Answers.{against}
 use Rattle.messages.proofs.IncumbentLaws.{kept_labelling}
-use Rattle.messages.proofs.LentLaws.{LentWell, lent_well, laid, seen_of, fit_of}
+use Rattle.messages.proofs.LentLaws.{LentWell, lent_well, fit_of}
 use Rattle.messages.proofs.ReportLaws.{told-bound, told_kept}
 use Rattle.messages.proofs.reporting.tell.Goals as goal
 use Rattle.messages.proofs.reporting.tell.Goals.{Start}
@@ -22,23 +20,12 @@ module _ (q : Start) where
   abbrev lends : Buffers
   lends = lent q.args.nodes.now q.args.labels.now q.args.edges.now q.args.incumbent.now
 
-  well : LentWell sheet q.args.limit lends
-  well = lent_well sheet q.args.limit lends q.requires.incumbent_value
-
-  unread : q.args.layout.refusal ≡ 0
-  unread = refusal_is sheet q.requires.layout_value.0 ∙ well.readable
-
-  seen : {v : View} → v ≡ view_of q.args.layout q.args.limit → Seen sheet v q.args.layout.starts q.args.layout.tables
-  seen e = subst (λ (x : View). Seen sheet x q.args.layout.starts q.args.layout.tables) (sym e) (seen_of sheet q.requires.layout_value.0 unread q.args.limit q.requires.layout_value.1)
-
-pub view_of-view-requires : goal.view_of-view-requires
-view_of-view-requires c =
-    let q = (goal.at.view_of-view-requires c).Start in let d = laid (sheet q) c.requires.layout_value.0 (unread q) in (d.nodes_few, d.positions_few, d.edges_few)
+  well : LentWell sheet cost_limit lends
+  well = lent_well sheet cost_limit lends q.requires
 
 pub lower_bound-bound-requires : goal.lower_bound-bound-requires
 lower_bound-bound-requires c =
-    let q = (goal.at.lower_bound-bound-requires c).Start in let t = seen q c.view_of-view.ensures in
-    record { viewed = (t.viewed, t.begun); node_fits = fit_of (sheet q) c.args.limit (lends q) c.requires.layout_value.1 (well q).lengths (well q).ranged }
+    let q = (goal.at.lower_bound-bound-requires c).Start in fit_of (sheet q) cost_limit (lends q) (omega arith) (well q).lengths (well q).ranged
 
 pub returns-then-none_kept : goal.returns-then-none_kept
 returns-then-none_kept c =
@@ -46,7 +33,7 @@ returns-then-none_kept c =
 
 pub price-requires : goal.price-requires
 price-requires c =
-    let q = (goal.at.price-requires c).Start in record { seen = seen q c.view_of-view.ensures; labelling = kept_labelling (instance_of (sheet q)) (well q).kept (well q).incumbent (sym c.none_kept.ensures ∙ c.if-none_kept.false) }
+    let q = (goal.at.price-requires c).Start in kept_labelling (instance_of (sheet q)) (well q).kept (well q).incumbent (sym c.none_kept.ensures ∙ c.if-none_kept.false)
 
 pub answer-requires : goal.answer-requires
 answer-requires c =

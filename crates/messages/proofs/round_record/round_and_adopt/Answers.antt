@@ -2,10 +2,10 @@
 use Rattle.std.proofs.Common.{◌≡◌, ◌≤◌, Some, length, sym, arith, length-take-le}
 use Rattle.instance.specs.Instance.{Instance}
 use Rattle.instance.specs.Sheet.{instance_of}
+use Rattle.instance.proofs.Sheets as sheet
 use Rattle.rules.specs.Costs.{Costs}
 use Rattle.rules.specs.Rounding.{round}
 use Rattle.messages.specs.Rounded.{costs_by, rounded_by}
-use Rattle.messages.proofs.SheetLaws.{nodes_few_lem}
 use Rattle.messages.proofs.RoundRecordLaws.{places_long, stuck_left, found_labelling, found_left}
 use Rattle.messages.proofs.round_record.round_and_adopt.Goals as goal
 use Rattle.messages.proofs.round_record.round_and_adopt.Goals.{In-Some, Start}
@@ -25,10 +25,10 @@ module _ (p : In-Some) where
   made = p.in-Some.ensures
 
   abbrev same : start.args.run.now.sheet.nodes ≡ I.node_count
-  same = start.requires.round_asked.seen.viewed.nodes
+  same = sheet.nodes_is start.args.run.now.sheet
 
   abbrev few : start.args.run.now.sheet.nodes ≤ 64
-  few = nodes_few_lem start.requires.round_asked.seen.viewed
+  few = sheet.nodes_few start.args.run.now.sheet
 
   room : start.args.run.now.sheet.nodes ≤ length p.in-Some.x
   room = omega (arith, few, places_long I costs start.args.run.now.sheet.nodes same few p.in-Some.x made)

@@ -7,7 +7,7 @@ use Rattle.messages.proofs.round_record.round_record.Goals as goal
 pub returns-then-names_nothing : goal.returns-then-names_nothing
 returns-then-names_nothing c =
     let a = c.args in
-    c.round_and_adopt-stuck.ensures
+    c.round_and_adopt.ensures
     ∙ taken_rounds (instance_of a.run.now.sheet.bytes.now) a.nodes.now a.edges.now a.incumbent.now a.step.node a.step.index a.step.share (sym c.names_nothing.ensures ∙ c.if-names_nothing.true)
 
 pub returns-else-names_nothing : goal.returns-else-names_nothing

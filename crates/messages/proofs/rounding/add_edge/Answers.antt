@@ -1,12 +1,10 @@
 -- `add_edge` meets its contract: the row lies in the edge's table.
 use Rattle.std.proofs.Common.{◌≡◌, ℕ, ◌+◌, ◌-◌, ◌*◌, ◌<◌, ◌≤◌, length, get_or, take, drop, sym, ap, ◌∙◌, subst, ap₂, arith}
-use Rattle.integers.proofs.Rows.{length_part, within_part}
 use Rattle.instance.specs.Instance.{Instance, table}
 use Rattle.instance.specs.Sheet.{instance_of}
-use Rattle.rules.specs.Calls.{cost_limit}
+use Rattle.instance.proofs.Sheets as sheet
 use Rattle.rules.specs.Costs.{position}
 use Rattle.messages.specs.Rounded.{added, edge_row}
-use Rattle.messages.proofs.SheetLaws.{proper, nodes_few_lem, edges_few_lem, high_node, table_is}
 use Rattle.messages.proofs.KeyLaws.{row_room}
 use Rattle.messages.proofs.rounding.add_edge.Goals as goal
 use Rattle.messages.proofs.rounding.add_edge.Goals.{After-degree-degree, After-from, Start}
@@ -15,14 +13,11 @@ module _ (q : Start) where
   abbrev I : Instance
   I = instance_of q.args.sheet.now.bytes.now
 
-  edge : q.args.e < I.edge_count
-  edge = omega (arith, q.requires.placed.1, q.requires.viewed.0.edges)
-
   few : q.args.e < 256
-  few = omega (arith, q.requires.placed.1, edges_few_lem q.requires.viewed.0)
+  few = omega (arith, q.requires.placed.1, sheet.edges_few q.args.sheet.now)
 
-  node : q.args.u < I.node_count
-  node = subst (λ (w : ℕ). w < I.node_count) q.requires.placed.2 (high_node q.requires.viewed.0 q.requires.placed.1)
+  node : q.args.u < q.args.sheet.now.nodes
+  node = subst (λ (w : ℕ). w < q.args.sheet.now.nodes) q.requires.placed.2 (sheet.high_node q.args.sheet.now q.requires.placed.1)
 
 -- the row, with all that it rests on read
 module _ (p : After-from) where
@@ -39,63 +34,50 @@ module _ (p : After-from) where
   long = degree.degree-degree.result
 
   abbrev from : ℕ
-  from = get_or start.args.tables.now e 0 + long * p.from.result
+  from = get_or start.args.sheet.now.tables e 0 + long * p.from.result
 
   long_is : long ≡ (I start).degree ((I start).high e)
   long_is = degree.degree-degree.ensures.0 ∙ ap (I start).degree (sym start.requires.placed.2)
 
   from_is : from ≡ table (I start) e + (I start).degree ((I start).high e) * position start.args.positions.now ((I start).low e)
   from_is =
-      λ j. table_is start.args.sheet.now.bytes.now start.requires.viewed.1 start.requires.viewed.0.readable (edge start) j
+      λ j. sheet.table_is start.args.sheet.now start.requires.placed.1 j
       + long_is j * (p.from.ensures ∙ ap (λ (w : ℕ). get_or start.args.positions.now w 0) degree.low-low.ensures.0) j
 
   room : from + long ≤ length start.args.edges.now
-  room = omega (arith, from_is, long_is, row_room start.requires.viewed.0 start.requires.viewed.2 start.args.positions.now start.requires.placed.0 start.requires.placed.1 start.requires.placed.2)
+  room = omega (arith, from_is, long_is, row_room start.args.sheet.now start.requires.edge_fits start.args.positions.now start.requires.placed.0 start.requires.placed.1 start.requires.placed.2)
 
   small : from + long ≤ 4_096
-  small = omega (arith, room, start.requires.viewed.2.size, (proper start.args.sheet.now.bytes.now start.requires.viewed.0.readable).cells_few)
+  small = omega (arith, room, start.requires.edge_fits.size, (sheet.proper start.args.sheet.now).cells_few)
 
   read : take (from + long - from) (drop from start.args.edges.now) ≡ edge_row (I start) start.args.edges.now start.args.positions.now e
   read =
       let a : from + long - from ≡ long = omega arith in
       ap₂ (λ (m k : ℕ). take m (drop k start.args.edges.now)) (a ∙ long_is) from_is
 
-pub low-low-requires : goal.low-low-requires
-low-low-requires c = (c.requires.viewed.0, c.requires.placed.1)
-
 pub degree-degree-requires : goal.degree-degree-requires
-degree-degree-requires c = (c.requires.viewed.0.readable, node (goal.at.degree-degree-requires c).Start)
+degree-degree-requires c = node (goal.at.degree-degree-requires c).Start
 
-pub offset_bounds-tables-e : goal.offset_bounds-tables-e
-offset_bounds-tables-e c = omega (arith, few (goal.at.offset_bounds-tables-e c).Start)
+pub offset_bounds-sheet-e : goal.offset_bounds-sheet-e
+offset_bounds-sheet-e c = omega (arith, few (goal.at.offset_bounds-sheet-e c).Start)
 
-pub bounds-tables-e : goal.bounds-tables-e
-bounds-tables-e c = few (goal.at.bounds-tables-e c).Start
+pub bounds-sheet-e : goal.bounds-sheet-e
+bounds-sheet-e c = few (goal.at.bounds-sheet-e c).Start
 
 pub bounds-positions-low : goal.bounds-positions-low
-bounds-positions-low c = omega (arith, c.low-low.ensures.1, c.requires.viewed.0.nodes, nodes_few_lem c.requires.viewed.0)
-
-pub overflow_mul-row : goal.overflow_mul-row
-overflow_mul-row c = omega (arith, small c)
+bounds-positions-low c = omega (arith, c.low-low.ensures.1, sheet.nodes_few c.args.sheet.now)
 
 pub overflow_add-row : goal.overflow_add-row
 overflow_add-row c = omega (arith, small c)
 
-pub overflow_add-end : goal.overflow_add-end
-overflow_add-end c = omega (arith, small c)
+pub overflow_add-row-2 : goal.overflow_add-row-2
+overflow_add-row-2 c = omega (arith, small (goal.at.overflow_add-row-2 c).After-from)
 
 pub offset_bounds-edges-row : goal.offset_bounds-edges-row
 offset_bounds-edges-row c = omega (arith, small (goal.at.offset_bounds-edges-row c).After-from)
 
 pub slice_bounds-add_cells-end : goal.slice_bounds-add_cells-end
 slice_bounds-add_cells-end c = room (goal.at.slice_bounds-add_cells-end c).After-from
-
-pub add_cells-requires : goal.add_cells-requires
-add_cells-requires c =
-    let p = (goal.at.add_cells-requires c).After-from in let q = start p in
-    let edges = q.args.edges.now in
-    let z : from p + long p - from p ≡ long p = omega arith in
-    record { row_in_bounds = omega (arith, z, length_part edges (from p) (from p + long p - from p) (omega (arith, room p)), (degree p).degree-degree.ensures.1, q.requires.keys_len.0); within = q.requires.keys_len.1; within_2 = within_part cost_limit (from p) (from p + long p - from p) edges q.requires.viewed.2.range }
 
 pub returns : goal.returns
 returns c =

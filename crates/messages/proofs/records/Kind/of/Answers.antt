@@ -2,7 +2,7 @@
 use Rattle.std.proofs.Common.{◌≡◌, ℕ, ◌<◌, ◌≤◌, ap, sym, arith}
 use Rattle.rules.specs.Run.{unknown, kind_of}
 use Rattle.messages.specs.Records.{kind_as}
-use Rattle.messages.proofs.RecordLaws.{kind_past}
+use Rattle.messages.proofs.KindLaws.{kind_past}
 use Rattle.messages.proofs.records.Kind.of.Goals as goal
 
 -- by the number
