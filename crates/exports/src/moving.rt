@@ -6,9 +6,8 @@ ghost use Rattle.exports.specs.Stored.{answered};
 ghost use Rattle.messages.specs.Answers.{reported_as};
 ghost use Rattle.exports.specs.Moving.{outcome, ran_in, values_in, reported_in};
 
-use crate::storing::{code, copy, refuse_length, store_costs};
+use crate::storing::{NONE, code, copy, refuse_length, store_costs};
 use instance::Sheet;
-use instance::refusal::NONE;
 use messages::{Report, open, report, run};
 
 // Fills the four buffers from the sheet; answers the refusal.

@@ -5,8 +5,7 @@ ghost use Rattle.instance.specs.Layout.{refused_by, layout_of, edge_refusal_of};
 ghost use Rattle.exports.specs.Stored.{answered};
 ghost use Rattle.exports.specs.Reading.{read_in, numbers_of, span_of, shown_in};
 
-use crate::storing::{code, copy, refuse_length};
-use instance::refusal::NONE;
+use crate::storing::{NONE, code, copy, refuse_length};
 use instance::{Refusal, Sheet};
 
 // The numbers of a sheet: the refusal, which is none, the five counts, and then the node starts and the edge starts.

@@ -4,7 +4,9 @@ ghost use Rattle.instance.specs.Refusal.{refused_in};
 ghost use Rattle.exports.specs.Stored.{unlent};
 
 use instance::Refusal;
-use instance::refusal::{BUFFER_LENGTH, NONE};
+
+// not turned back
+pub(crate) const NONE: u8 = 0;
 
 // The number of the refusal, 0 where there is none.
 pub(crate) fn code<T: Drop>(answer: Result<T, Refusal>) -> u8
@@ -22,7 +24,7 @@ pub(crate) fn refuse_length<T: Drop>(before: Result<T, Refusal>) -> u8
     ensures { result ≡ unlent (refused_in before) }
 {
     match before {
-        Ok(_) => BUFFER_LENGTH,
+        Ok(_) => Refusal::BufferLength.number(),
         Err(before) => before.number(),
     }
 }

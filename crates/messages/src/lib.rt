@@ -27,4 +27,4 @@ pub use opening::open;
 pub use reporting::report;
 
 // What reading promises, passed on to the layer above, which names this crate alone.
-pub use instance::{Layout, Refusal, Sheet, exclusive, read, refusal};
+pub use instance::{Refusal, Sheet, exclusive};

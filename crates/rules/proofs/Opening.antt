@@ -16,8 +16,6 @@ use Rattle.integers.proofs.Checks.{failure_append}
 use Rattle.instance.specs.Bytes.{price_at}
 use Rattle.instance.specs.Instance.{Instance, node_cells, edge_cells}
 use Rattle.instance.specs.Sheet.{instance_of, node_prices_at, edge_prices_at, checks, refusal_of}
-use Rattle.instance.specs.declared.reading.Layout.{Layout}
-use Rattle.instance.proofs.LaidOut.{LaidOut}
 use Rattle.instance.proofs.Shown.{checks-numbered}
 use Rattle.rules.specs.Costs.{Buffers, opened}
 use Rattle.rules.specs.Calls.{lengths_ok, open_refusal, open_of}
@@ -46,12 +44,6 @@ module _ (s : List ℕ) (b : Buffers) where
   open_fills e h =
       let k : open_refusal s b ≡ 0 = by_checks ∙ if-true _ (refusal_of s) (eq-eqb (refusal_of s) 0 e) ∙ if-true 0 8 h in
       sym (ap (λ (k : ℕ). record { buffers = cond (eqb k 0) (opened I) b; refusal = k }) k)
-
-  -- the lengths by what reading answered
-  pub lengths_by : {l : Layout} → LaidOut s l
-      → lengths_ok I b ≡ (eqb (length b.nodes) l.positions && eqb (length b.labels) l.positions && eqb (length b.edges) l.cells && eqb (length b.incumbent) l.nodes)
-  unfolding lengths_ok
-  lengths_by d = rw (d.positions, d.cells, d.nodes)
 
   -- the lengths that were found good
   pub lengths_are : lengths_ok I b ≡ true

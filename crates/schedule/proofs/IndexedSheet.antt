@@ -10,7 +10,7 @@ use Rattle.integers.specs.Places.{range, offset}
 use Rattle.integers.proofs.Places.{length-range}
 use Rattle.instance.specs.Bytes.{byte}
 use Rattle.instance.specs.Instance.{Instance, exclusive, first, node_cells}
-use Rattle.instance.specs.declared.reading.Layout.{Layout}
+use Rattle.instance.specs.Layout.{Layout}
 use Rattle.instance.specs.Sheet.{instance_of, ends_at}
 use Rattle.instance.specs.Layout.{layout_of}
 use Rattle.instance.specs.Readable.{Proper, Readable}

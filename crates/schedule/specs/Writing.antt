@@ -2,7 +2,7 @@
 use Rattle.std.specs.Prelude.{◌≡◌, cond, List, ◌++◌, map, Option, Some, None, ℕ, ◌+◌, ◌-◌, ◌*◌, ◌≤◌, ◌<◌, eqb, length, get_or, take, drop}
 use Rattle.integers.specs.Places.{range, offset}
 use Rattle.instance.specs.Bytes.{byte}
-use Rattle.instance.specs.declared.reading.Layout.{Layout}
+use Rattle.instance.specs.Layout.{Layout}
 use Rattle.instance.specs.Instance.{exclusive, node_cells}
 use Rattle.instance.specs.Sheet.{instance_of, refusal_of}
 use Rattle.index.specs.Index.{many, held, index_of}
