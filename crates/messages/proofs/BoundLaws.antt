@@ -1,6 +1,6 @@
 -- The parts of the lent costs, rows of nodes and tables of edges, and the bound as the sum over them.
 -- Assumes nothing.
-use Rattle.std.proofs.Common.{◌≡◌, ℕ, ◌+◌, ◌*◌, ◌<◌, ◌≤◌, true, eqb, ltb, List, [], map, length, get_or, ℤ, pos, ◌+ℤ◌, nat_abs, sym, ap, ◌∙◌, arith, w64, SFits, ltb-false, ltb-true}
+use Rattle.std.proofs.Common.{◌≡◌, ℕ, ◌+◌, ◌*◌, ◌≤◌, true, eqb, ltb, List, [], map, length, get_or, ℤ, pos, ◌+ℤ◌, nat_abs, sym, ap, ◌∙◌, arith, w64, SFits, ltb-false, ltb-true}
 use lib.ListN.{get_or-eq_default}
 use Rattle.integers.specs.Least.{least_from, least_of}
 use Rattle.integers.specs.Sum.{Within}
@@ -14,7 +14,6 @@ use Rattle.integers.proofs.Totals.{total_ext}
 use Rattle.integers.proofs.Ranges.{range-part}
 use Rattle.instance.specs.Instance.{Instance, first, node_cells, table_size, table}
 use Rattle.instance.specs.Sheet.{instance_of}
-use Rattle.instance.specs.Readable.{Proper}
 use Rattle.instance.proofs.LaidOut.{row_inside}
 use Rattle.rules.specs.Calls.{cost_limit}
 use Rattle.rules.specs.Places.{node_places, label_places}

@@ -6,7 +6,7 @@ use Rattle.integers.specs.Places.{every}
 use Rattle.integers.specs.Checks.{within, first_failure}
 use Rattle.integers.proofs.Places.{by-test, if-true, if-false, and_true}
 use Rattle.integers.proofs.Checks.{failure_append}
-use Rattle.instance.specs.Instance.{Instance, first}
+use Rattle.instance.specs.Instance.{Instance}
 use Rattle.instance.specs.Sheet.{instance_of, checks, refusal_of}
 use Rattle.instance.proofs.Shown.{checks-numbered}
 use Rattle.rules.specs.Costs.{Buffers, in_range}

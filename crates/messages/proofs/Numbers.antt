@@ -1,14 +1,14 @@
 -- Each number that the rules refuse with is that of a refusal.
 -- Assumes nothing.
-use Rattle.std.proofs.Common.{Option, Some, None, ◌≡◌, ℕ, ◌+◌, ◌<◌, ◌≤◌, Bool, true, false, cond, ◌&&◌, eqb, leb, ◌⊎◌, List, [], ◌∷◌, ◌++◌, get_or, length, ◌%◌, sym, refl, ap, ◌∙◌, subst, ⊎_elim, arith, eqb-true, leb-true, lit≤}
+use Rattle.std.proofs.Common.{Option, Some, None, ◌≡◌, ℕ, ◌≤◌, Bool, true, cond, eqb, leb, ◌⊎◌, List, [], ◌∷◌, ◌++◌, get_or, length, ◌%◌, sym, refl, ◌∙◌, ⊎_elim, arith, eqb-true, leb-true, lit≤}
 use Rattle.integers.specs.Places.{every}
 use Rattle.integers.specs.Checks.{below, first_failure}
-use Rattle.integers.proofs.Places.{by-test, by_cond, and_true, if-true, if-false}
+use Rattle.integers.proofs.Places.{by-test, by_cond, and_true, if-false}
 use Rattle.integers.proofs.Checks.{below_at}
 use Rattle.instance.specs.declared.refusal.Refusal.{Refusal}
 use Rattle.instance.specs.declared.refusal.Refusal.TheVariants.{NoTrailer, OverLimit, WrongLength, BadDegree, BadLabel, BadEdge, PriceRange, BufferLength, CostRange, BadIncumbent, PartialRecord, NoSuchRecord, CostOverflow, BoundAboveCost, NoUsableCell, NoMatching}
-use Rattle.instance.specs.Refusal.{number, number_of}
-use Rattle.instance.specs.Sheet.{instance_of, checks, refusal_of}
+use Rattle.instance.specs.Refusal.{number_of}
+use Rattle.instance.specs.Sheet.{instance_of, checks}
 use Rattle.instance.proofs.Readable.{readable}
 use borrow.Author.Tests.{eqb-false}
 use lib.Signed.{le_z}

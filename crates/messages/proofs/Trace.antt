@@ -17,7 +17,7 @@ use Rattle.messages.specs.declared.answers.Report.{Report}
 use Rattle.messages.specs.declared.answers.Report.TheVariants.{Bound, Kept}
 use Rattle.messages.specs.Lent.{lent, opens}
 use Rattle.instance.specs.declared.refusal.Refusal.{Refusal}
-use Rattle.instance.specs.Refusal.{number, number_of, refused_in}
+use Rattle.instance.specs.Refusal.{number_of, refused_in}
 use Rattle.messages.specs.Answers.{reported_as, ran_as}
 use Rattle.messages.proofs.Numbers.{named, named_number, run_number, Small, report_number}
 use Rattle.rules.proofs.Opening.{by_checks, open_fills}

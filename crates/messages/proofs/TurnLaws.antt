@@ -1,6 +1,6 @@
 -- Between two records: what was lent well is good, what is good fits each kind's code, a record leaves what is good good, and the rules' outcome is what the code leaves.
 -- Assumes nothing.
-use Rattle.std.proofs.Common.{◌≡◌, ℕ, zero, suc, ◌+◌, ◌<◌, ◌≤◌, Bool, true, false, cond, ◌&&◌, ◌||◌, eqb, ◌⊎◌, List, [], ◌∷◌, length, replicate, ℤ, ◌+ℤ◌, neg_ℤ, sym, refl, ap, ◌∙◌, subst, ap₂, inl, inr, arith, eqb-true}
+use Rattle.std.proofs.Common.{◌≡◌, ℕ, zero, suc, ◌+◌, ◌<◌, ◌≤◌, Bool, true, false, cond, ◌&&◌, ◌||◌, eqb, List, [], ◌∷◌, length, replicate, ℤ, ◌+ℤ◌, neg_ℤ, sym, refl, ap, ◌∙◌, subst, ap₂, inl, inr, arith, eqb-true}
 use Rattle.integers.specs.Places.{every}
 use Rattle.integers.specs.Checks.{within}
 use Rattle.integers.specs.Rows.{add_at}
@@ -14,7 +14,7 @@ use Rattle.rules.specs.Costs.{Buffers, costs_of, in_range, Sized}
 use Rattle.rules.specs.Messages.{node_to_edge, edge_to_node, node_to_label, label_to_node, to_label, deltas, shift}
 use mathlib.Core.Option.{Option, none, some}
 use Rattle.rules.specs.Rounding.{round}
-use Rattle.rules.specs.Run.{Kind, message, rounding, unknown, kind_of, Outcome, refused, done, rounded, checked, effect, legal_message, legal_edge, legal_position}
+use Rattle.rules.specs.Run.{Kind, message, rounding, unknown, Outcome, refused, done, rounded, checked, effect, legal_message, legal_edge, legal_position}
 use Rattle.rules.specs.Calls.{cost_limit, incumbent_ok}
 use Rattle.rules.proofs.Bridge.{moved_label, touched_label}
 use Rattle.rules.proofs.Run.{Done, Ranged, legal_edge_is, legal_position_is, effect_later, effect_range}

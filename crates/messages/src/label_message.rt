@@ -17,7 +17,13 @@ use crate::running::Run;
 use instance::{Refusal, Sheet};
 
 // Moves `p` from the node cost to the label cost at the place `i`, where both stay within the limit.
-pub(crate) fn shift_label(nodes: &mut [i64], labels: &mut [i64], i: usize, p: i64, limit: u64) -> Result<(), Refusal>
+pub(crate) fn shift_label(
+    nodes: &mut [i64],
+    labels: &mut [i64],
+    i: usize,
+    p: i64,
+    limit: u64,
+) -> Result<(), Refusal>
     requires i_in_bounds { (i < length nodes.old) × (i < length labels.old) }
     requires within { Within cost_limit nodes.old }
     requires within_2 { Within cost_limit labels.old }

@@ -1,5 +1,5 @@
 -- `cell_least` meets its contract: the labels of both ends are parts of the sheet.
-use Rattle.std.proofs.Common.{◌≡◌, ℕ, ◌<◌, true, List, sym, ap, ◌∙◌, subst, ap₂}
+use Rattle.std.proofs.Common.{◌≡◌, ℕ, true, List, sym, ap, ◌∙◌, subst, ap₂}
 use Rattle.integers.specs.Least.{least_of}
 use Rattle.integers.proofs.Bits.{answer}
 use Rattle.instance.specs.declared.sheet.Sheet.{Sheet}

@@ -33,7 +33,7 @@ loop-i-preserved c =
     let x = get_or a.labels.now c.loop-i.i (pos 0) in
     let y = get_or c.loop-i.least c.label-l.result (pos 0) in
     leasts_turn (instance_of a.sheet.now.bytes.now) a.labels.now c.loop-i.invariant c.label-l.ensures.0 c.label-l.ensures.1
-          (answer c.min.type_inv (c.min.ensures.value ∙ ap₂ int_min (to_z-of_z {w = w64} {z = y} (search rules)) (to_z-of_z {w = w64} {z = x} (search rules)) ∙ less_back y x))
+    (answer c.min.type_inv (c.min.ensures.value ∙ ap₂ int_min (to_z-of_z {w = w64} {z = y} (search rules)) (to_z-of_z {w = w64} {z = x} (search rules)) ∙ less_back y x))
 
 pub returns : goal.returns
 returns c =

@@ -6,7 +6,6 @@ use Rattle.instance.specs.Instance.{node_cells}
 use Rattle.instance.specs.Sheet.{instance_of}
 use Rattle.rules.specs.Costs.{bound}
 use Rattle.rules.specs.Calls.{cost_limit}
-use Rattle.instance.specs.declared.sheet.Sheet.{Sheet}
 use Rattle.instance.proofs.Sheets.{nodes_few, edges_few, labels_few}
 use Rattle.messages.proofs.BoundLaws.{by_node, by_edge, by_label, leasts_within, sum_fits, sum_small}
 use Rattle.messages.proofs.bound.lower_bound.Goals as goal

@@ -19,4 +19,3 @@ loop-place-preserved c =
     ∙ ap₂ (λ (b : ℤ) (x : ℕ). least_from b (map f (others a.own (x ∷ [])))) c.loop-place.invariant c.from.ensures
     ∙ rival_next f a.own (take k a.places.now) (get_or a.places.now k 0)
     ∙ ap (rival_in f a.own) (sym (take_more a.places.now k 0 c.loop-place-test.true))
-

@@ -1,10 +1,10 @@
 -- `start` meets its contract: the sheet, what is lent, and then the list.
-use Rattle.std.proofs.Common.{◌≡◌, ℕ, ◌≤◌, List, sym, ap, ◌∙◌, arith, Bor}
+use Rattle.std.proofs.Common.{◌≡◌, ℕ, List, sym, ap, ◌∙◌, arith, Bor}
 use Rattle.std.proofs.lemmas.Result.{err_from_is_err_and}
 use Rattle.instance.specs.Refusal.{number, refused_in}
 use Rattle.instance.proofs.Told.{numbered}
 use Rattle.rules.specs.Costs.{Buffers}
-use Rattle.rules.specs.Calls.{lent_refusal, run_refusal}
+use Rattle.rules.specs.Calls.{lent_refusal}
 use Rattle.messages.specs.Lent.{lent}
 use Rattle.messages.proofs.LentLaws.{lent_unread}
 use Rattle.messages.proofs.RunLaws.{run_unread, run_partial, run_begins}

@@ -1,6 +1,6 @@
 -- `legal_position` meets its contract, test by test.
 use Rattle.std.proofs.Common.{◌≡◌, ℕ, ◌+◌, ◌<◌, true, get_or, sym, ap, ◌∙◌, arith}
-use Rattle.instance.specs.Instance.{Instance, exclusive, first, node_cells}
+use Rattle.instance.specs.Instance.{Instance, exclusive, first}
 use Rattle.instance.specs.Sheet.{instance_of}
 use Rattle.rules.specs.Run.{legal_share}
 use Rattle.messages.specs.declared.records.Record.{Record}

@@ -1,5 +1,5 @@
 -- `report` meets its contract: refused, or what is told.
-use Rattle.std.proofs.Common.{◌≡◌, ℕ, ◌≤◌, List, sym, ap, ◌∙◌, arith, Bor}
+use Rattle.std.proofs.Common.{◌≡◌, ℕ, List, sym, ap, ◌∙◌, arith, Bor}
 use Rattle.std.proofs.lemmas.Result.{err_from_is_err_and}
 use Rattle.instance.specs.declared.refusal.Refusal.{Refusal}
 use Rattle.instance.specs.Refusal.{number}

@@ -1,5 +1,5 @@
 -- `message` meets its contract: the messages of an edge by one function, those of a label by the other.
-use Rattle.std.proofs.Common.{◌≡◌, true, false, sym, ap, ◌∙◌}
+use Rattle.std.proofs.Common.{true, false, sym, ap, ◌∙◌}
 use Rattle.instance.specs.Sheet.{instance_of}
 use Rattle.messages.specs.declared.records.Way.{Way}
 use Rattle.messages.specs.Lent.{lent}

@@ -1,5 +1,5 @@
 -- `one_record` meets its contract, kind by kind.
-use Rattle.std.proofs.Common.{◌≡◌, Option, Some, None, ℕ, ◌+◌, ◌*◌, List, get_or, sym, ap, ◌∙◌}
+use Rattle.std.proofs.Common.{◌≡◌, Some, ℕ, ◌+◌, ◌*◌, List, get_or, sym, ap, ◌∙◌}
 use Rattle.instance.specs.Instance.{Instance}
 use Rattle.instance.specs.Sheet.{instance_of}
 use Rattle.rules.specs.Costs.{Buffers}
@@ -9,8 +9,8 @@ use Rattle.messages.specs.declared.records.Kind.{Kind}
 use Rattle.messages.specs.declared.records.Record.{Record}
 use Rattle.messages.specs.Lent.{lent}
 use Rattle.messages.specs.Records.{kind_as}
-use Rattle.messages.specs.Step.{Settled, settled_as, settled_by}
-use Rattle.messages.proofs.KindLaws.{Headed, head_some, head_none, kind_message, kind_rounding, kind_unknown}
+use Rattle.messages.specs.Step.{settled_as, settled_by}
+use Rattle.messages.proofs.KindLaws.{Headed, head_some, head_none, kind_rounding, kind_unknown}
 use Rattle.messages.proofs.RoundRecordLaws.{round_settled_lem}
 use Rattle.messages.proofs.TurnLaws.{fit, incumbent_fits, none_turn}
 use Rattle.messages.proofs.turn.one_record.Goals as goal

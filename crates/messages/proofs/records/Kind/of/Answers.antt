@@ -1,6 +1,6 @@
 -- `Kind::of` meets its contract: the rules' kinds stand in the order of their numbers.
-use Rattle.std.proofs.Common.{◌≡◌, ℕ, ◌<◌, ◌≤◌, ap, sym, arith}
-use Rattle.rules.specs.Run.{unknown, kind_of}
+use Rattle.std.proofs.Common.{◌≡◌, ℕ, ap, sym, arith}
+use Rattle.rules.specs.Run.{kind_of}
 use Rattle.messages.specs.Records.{kind_as}
 use Rattle.messages.proofs.KindLaws.{kind_past}
 use Rattle.messages.proofs.records.Kind.of.Goals as goal

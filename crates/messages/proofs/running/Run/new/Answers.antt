@@ -1,10 +1,10 @@
 -- `Run::new` meets its contract: the index of the labels and that of the higher ends are of the sheet's bytes.
-use Rattle.std.proofs.Common.{◌≡◌, ◌+◌, ◌-◌, ◌*◌, ◌≤◌, sym, subst, arith}
+use Rattle.std.proofs.Common.{◌≡◌, ◌+◌, ◌-◌, ◌*◌, sym, subst, arith}
 use Rattle.instance.specs.declared.sheet.Sheet.{Sheet}
 use Rattle.instance.specs.Instance.{first, node_cells}
 use Rattle.instance.specs.Sheet.{instance_of}
 use Rattle.instance.proofs.Indexes.{labels_indexed, highs_indexed}
-use Rattle.instance.proofs.Sheets.{whole, nodes_is, positions_is, edges_is, ends_few, edge_prices_few}
+use Rattle.instance.proofs.Sheets.{whole, nodes_is, ends_few, edge_prices_few}
 use Rattle.index.specs.Index.{Indexed}
 use Rattle.messages.proofs.running.Run.new.Goals as goal
 
