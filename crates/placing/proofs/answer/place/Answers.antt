@@ -3,7 +3,6 @@ use Rattle.std.proofs.Common.{◌≡◌, sym, ap, ◌∙◌, subst, Bool, cond, 
 use Rattle.std.proofs.lemmas.Result.{err_from_is_err_and}
 use Rattle.integers.specs.Places.{tabulate}
 use Rattle.instance.specs.declared.sheet.Sheet.{Sheet}
-use Rattle.instance.specs.declared.refusal.Refusal.{Refusal}
 use Rattle.instance.specs.Instance.{Instance}
 use Rattle.instance.specs.Sheet.{instance_of}
 use Rattle.instance.specs.Refusal.{number, refused_in}

@@ -1,6 +1,6 @@
 -- `lay_words` meets its contract: the nodes so far are laid out.
 -- Assumes nothing.
-use Rattle.std.proofs.Common.{◌≡◌, ℕ, ◌<◌, List, length, refl, sym, subst, arith}
+use Rattle.std.proofs.Common.{◌≡◌, ◌<◌, length, refl, sym, subst, arith}
 use Rattle.instance.specs.declared.sheet.Sheet.{Sheet}
 use Rattle.instance.specs.Sheet.{instance_of}
 use Rattle.instance.proofs.Sheets.{whole, nodes_few, node_there}
