@@ -1,6 +1,6 @@
 -- `run_text` meets its contract, by where the run stopped.
 -- Assumes nothing.
-use mathlib.Core.Path.{◌≡◌, refl, sym, ap, ◌∙◌}
+use mathlib.Core.Path.{◌≡◌, sym, ap, ◌∙◌}
 use mathlib.Core.Bool.{true}
 use Rattle.integers.proofs.Places.{if-true, if-false}
 use Rattle.instance.specs.Refusal.{number_of}

@@ -1,7 +1,6 @@
 -- `stop_line` meets its contract, by whether the run stopped.
 -- Assumes nothing.
 use mathlib.Core.Path.{ap, ◌∙◌}
-use Rattle.instance.specs.Refusal.{number_of}
 use Rattle.console.specs.Lines.{refused_line, stop_line}
 use Rattle.console.proofs.RefusalLaws.{stopped_line}
 use Rattle.console.proofs.WritingLaws.{wrote_none, wrote_as}
