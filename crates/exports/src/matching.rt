@@ -1,6 +1,7 @@
 // Placing all nodes.
 ghost use Rattle.placing.specs.Placing.{Placed};
 
+use crate::storing::code;
 use placing::place;
 
 // Writes the position of each node in the smallest matching into `out`, of exactly n places; answers the refusal. Where no
@@ -9,5 +10,5 @@ use placing::place;
 pub extern "C" fn cirbaldu_place(sheet: &[u8], out: &mut [u8]) -> u8
     ensures { Placed sheet.now out.old result out.new }
 {
-    place(sheet, out)
+    code(place(sheet, out))
 }

@@ -174,7 +174,7 @@ module _ {s : List ℕ} (r : Readable s) {u : ℕ} (h : u < (instance_of s).node
   abbrev a : ℕ
   a = I.node_count + first I u
 
-  pub bytes_inside : a + I.degree u ≤ length s
+  bytes_inside : a + I.degree u ≤ length s
   bytes_inside = omega (arith, row_inside I h, r.whole)
 
   bytes_long : length (bytes_of s u) ≡ I.degree u

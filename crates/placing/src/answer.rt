@@ -1,6 +1,7 @@
 // The public call, and what it writes out: the positions of a placing, or the members of a set.
 ghost use Rattle.std.specs.Prelude.{◌≡◌, cond, ℕ, ◌≤◌, ◌<◌, length};
 ghost use Rattle.integers.specs.Places.{tabulate};
+ghost use Rattle.instance.specs.Refusal.{refused_in};
 ghost use Rattle.placing.specs.Words.{entry, below, rank, caught};
 ghost use Rattle.placing.specs.Placing.{Placed};
 
@@ -8,8 +9,7 @@ use crate::all::Unplaced;
 use crate::smallest::smallest;
 use crate::tables::{Nodes, lay_words};
 use crate::words::has;
-use instance::read;
-use instance::refusal::{BUFFER_LENGTH, NO_MATCHING, NONE};
+use instance::{Refusal, Sheet};
 
 // The labels below one.
 fn labels_below(label: u8) -> u64
@@ -56,26 +56,22 @@ fn write_members(unplaced: &Unplaced, out: &mut [u8])
 
 // Places all nodes of a sheet: the smallest matching, by positions from node 0 on. Refused with 16 where there is none, and then, alone among refusals, `out` is written:
 // 1 for each member of a small set of nodes that has too few labels, and 0 for the rest.
-pub fn place(sheet: &[u8], out: &mut [u8]) -> u8
-    ensures { Placed sheet.now out.old result out.new }
+pub fn place(sheet: &[u8], out: &mut [u8]) -> Result<(), Refusal>
+    ensures { Placed sheet.now out.old (refused_in result) out.new }
 {
-    let layout = read(sheet);
-    if layout.refusal != NONE {
-        return layout.refusal;
+    let sheet = Sheet::read(sheet)?;
+    if out.len() != sheet.nodes {
+        return Err(Refusal::BufferLength);
     }
-    let n = layout.nodes;
-    if out.len() != n {
-        return BUFFER_LENGTH;
-    }
-    let nodes = lay_words(sheet, n, &layout.starts);
+    let nodes = lay_words(&sheet);
     match smallest(&nodes) {
         Ok(taken) => {
             write_positions(&nodes, &taken, out);
-            NONE
+            Ok(())
         }
         Err(unplaced) => {
             write_members(&unplaced, out);
-            NO_MATCHING
+            Err(Refusal::NoMatching)
         }
     }
 }

@@ -1,12 +1,12 @@
 // The sheet as words: for each node the word of its labels, and whether it has 255.
 ghost use Rattle.std.specs.Prelude.{◌≡◌, ℕ, ◌≤◌, ◌<◌, length};
 ghost use Rattle.integers.specs.Words.{word_of, Words};
-ghost use Rattle.instance.specs.Instance.{first};
-ghost use Rattle.instance.specs.Sheet.{instance_of, refusal_of};
+ghost use Rattle.instance.specs.Sheet.{instance_of};
 ghost use Rattle.placing.specs.Words.{entry, Laid};
 ghost use Rattle.placing.specs.Labels.{Labels, Worded};
 
 use crate::words::bit_of;
+use instance::Sheet;
 
 // The nodes below `count`: the word of each one's labels below 64, and whether it has 255.
 // Kept: two arrays and no array of structs, since the laws are of a table of words (`Words`) and one of flags.
@@ -48,20 +48,17 @@ fn row_of(labels: &[u8]) -> Row
     Row { word, own }
 }
 
-// All nodes. Node u's labels begin at the place `starts[u]`.
-pub(crate) fn lay_words(sheet: &[u8], n: usize, starts: &[usize; 64]) -> Nodes
-    requires { (refusal_of sheet.now ≡ 0) × (n ≡ (instance_of sheet.now).node_count) × ((u : ℕ) → u < n → entry starts.now u ≡ first (instance_of sheet.now) u) }
-    ensures { (result.count ≡ n) × Laid (instance_of sheet.now) n result.sets result.own }
+// All nodes.
+pub(crate) fn lay_words(sheet: &Sheet) -> Nodes
+    ensures { (result.count ≡ sheet.now.nodes) × Laid (instance_of sheet.now.bytes.now) sheet.now.nodes result.sets result.own }
 {
     let mut nodes = Nodes {
-        count: n,
+        count: sheet.nodes,
         sets: [0; 64],
         own: [false; 64],
     };
-    for u in 0..n {
-        let from = n + starts[u];
-        let past = from + usize::from(sheet[u]);
-        let row = row_of(&sheet[from..past]);
+    for u in 0..sheet.nodes {
+        let row = row_of(sheet.labels_of(u));
         nodes.sets[u] = row.word;
         nodes.own[u] = row.own;
     }

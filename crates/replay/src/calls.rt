@@ -8,7 +8,6 @@ use crate::buffers::{Buffer, Buffers};
 use crate::hash::Hash;
 use crate::ops::Op;
 use crate::reader::Reader;
-use instance::refusal::NO_MATCHING;
 use instance::{Refusal, Sheet};
 use messages::Report;
 
@@ -132,9 +131,9 @@ fn place(sheet: &[u8], reader: &mut Reader) -> Option<bool> {
     let answers = reader.answers();
     let mut out = [0xA5u8; 64];
     let lent = out.get_mut(..length)?;
-    let refusal = placing::place(sheet, lent);
-    let numbers = [u64::from(refusal)];
-    if refusal == NO_MATCHING {
+    let refusal = placing::place(sheet, lent).err();
+    let numbers = [number(refusal)];
+    if refusal == Some(Refusal::NoMatching) {
         return Some(answers.numbers_are(&numbers) && names_nodes(lent));
     }
     Some(answers.are(&numbers, Hash::new().bytes(lent)))
