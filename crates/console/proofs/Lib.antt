@@ -1,6 +1,7 @@
 -- Laws of what is printed.
 pub mod DecimalLaws
 pub mod WritingLaws
+pub mod RefusalLaws
 pub mod Outputs
 pub mod ProgramLaws
 pub mod Printed

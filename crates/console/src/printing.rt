@@ -1,22 +1,23 @@
 // The text of a run and of the report after it.
 ghost use Rattle.std.specs.Prelude.{◌≡◌, ◌+◌, ◌≤◌, length};
+ghost use Rattle.instance.specs.Refusal.{number, number_of};
 ghost use Rattle.messages.specs.Answers.{reported_as};
 ghost use Rattle.console.specs.Lines.{refused_line, count_lines, kept_lines, bound_lines, at_records, stop_line, report_text, text_of};
 ghost use Rattle.console.specs.Output.{outputs, output_of};
 ghost use Rattle.console.specs.Writing.{Wrote, Room};
 
 use crate::text::Text;
-use instance::refusal::{COST_OVERFLOW, NO_SUCH_RECORD, NONE};
+use instance::Refusal;
 use messages::{Answer, Report};
 
 // The least length of a buffer that is written to. No text is as long.
 const ROOM: usize = 256;
 
-fn refused_line(text: &mut Text, refusal: u8)
+fn refused_line(text: &mut Text, number: u8)
     requires { Room text.old 32 }
-    ensures { Wrote text.old (refused_line refusal) text.new }
+    ensures { Wrote text.old (refused_line number) text.new }
 {
-    text.line(b"refused ", refusal);
+    text.line(b"refused ", number);
 }
 
 fn count_lines(text: &mut Text, done: usize, stuck: usize)
@@ -49,58 +50,62 @@ fn bound_lines(text: &mut Text, bound: i64)
 }
 
 // The sixth line of a run that stopped at a record.
-fn stop_line(text: &mut Text, refusal: u8)
+fn stop_line(text: &mut Text, refusal: Option<Refusal>)
     requires { Room text.old 32 }
-    ensures { Wrote text.old (stop_line refusal) text.new }
+    ensures { Wrote text.old (stop_line (number_of refusal)) text.new }
 {
-    if refusal != NONE {
-        refused_line(text, refusal);
+    if let Some(refusal) = refusal {
+        refused_line(text, refusal.number());
     }
 }
 
-// Whether a run ended or stopped at a record: only then its counts are printed.
-fn at_records(refusal: u8) -> bool
-    ensures { result ≡ at_records refusal }
+// The text of a run and of a report that was not refused.
+fn told_text(text: &mut Text, answer: Answer, report: Report)
+    requires { Room text.old 256 }
+    ensures { Wrote text.old (report_text answer.done answer.stuck (number_of answer.refusal) (reported_as (Ok report))) text.new }
 {
-    (refusal == NONE) | (refusal == NO_SUCH_RECORD) | (refusal == COST_OVERFLOW)
+    count_lines(text, answer.done, answer.stuck);
+    match report {
+        Report::Bound(bound) => bound_lines(text, bound),
+        Report::Kept(bound, cost, gap) => kept_lines(text, bound, cost, gap),
+    }
+    stop_line(text, answer.refusal);
 }
 
 // The text of a report that was made of a run's last buffers.
-fn report_text(text: &mut Text, answer: Answer, report: Report)
+fn report_text(text: &mut Text, answer: Answer, report: Result<Report, Refusal>)
     requires { Room text.old 256 }
-    ensures { Wrote text.old (report_text answer.done answer.stuck answer.refusal (reported_as report)) text.new }
+    ensures { Wrote text.old (report_text answer.done answer.stuck (number_of answer.refusal) (reported_as report)) text.new }
 {
     match report {
-        Report::Refused(refusal) => refused_line(text, refusal),
-        Report::Bound(bound) => {
-            count_lines(text, answer.done, answer.stuck);
-            bound_lines(text, bound);
-            stop_line(text, answer.refusal);
-        }
-        Report::Kept(bound, cost, gap) => {
-            count_lines(text, answer.done, answer.stuck);
-            kept_lines(text, bound, cost, gap);
-            stop_line(text, answer.refusal);
-        }
+        Ok(report) => told_text(text, answer, report),
+        Err(refusal) => refused_line(text, refusal.number()),
     }
 }
 
-// The text of a run and of the report after it.
-fn run_text(text: &mut Text, answer: Answer, report: Report)
-    requires { Room text.old 256 }
-    ensures { Wrote text.old (text_of answer.done answer.stuck answer.refusal (reported_as report)) text.new }
+// Whether a refusal is that of a record: the run stopped there, and its counts are printed.
+#[tactic(auto, using(crate::proofs::RefusalLaws::at_others), unfolding(crate::specs::Lines::at_records))]
+fn at_record(refusal: Refusal) -> bool
+    ensures { result ≡ at_records (number refusal) }
 {
-    if at_records(answer.refusal) {
-        report_text(text, answer, report);
-    } else {
-        refused_line(text, answer.refusal);
+    matches!(refusal, Refusal::NoSuchRecord | Refusal::CostOverflow)
+}
+
+// The text of a run and of the report after it.
+fn run_text(text: &mut Text, answer: Answer, report: Result<Report, Refusal>)
+    requires { Room text.old 256 }
+    ensures { Wrote text.old (text_of answer.done answer.stuck (number_of answer.refusal) (reported_as report)) text.new }
+{
+    match answer.refusal {
+        Some(refusal) if !at_record(refusal) => refused_line(text, refusal.number()),
+        _ => report_text(text, answer, report),
     }
 }
 
 // Puts the text of a run and of the report after it at the start of out, and answers its length; in a buffer of fewer
 // than 256 bytes nothing, and 0.
-pub fn compose(answer: Answer, report: Report, out: &mut [u8]) -> usize
-    ensures { outputs out.new result ≡ output_of (text_of answer.done answer.stuck answer.refusal (reported_as report)) out.old }
+pub fn compose(answer: Answer, report: Result<Report, Refusal>, out: &mut [u8]) -> usize
+    ensures { outputs out.new result ≡ output_of (text_of answer.done answer.stuck (number_of answer.refusal) (reported_as report)) out.old }
 {
     if out.len() < ROOM {
         return 0;
@@ -112,13 +117,20 @@ pub fn compose(answer: Answer, report: Report, out: &mut [u8]) -> usize
 
 // Puts the line of a refusal at the start of out, and answers its length; in a buffer of fewer than 256 bytes nothing,
 // and 0.
-pub fn refusal_text(refusal: u8, out: &mut [u8]) -> usize
-    ensures { outputs out.new result ≡ output_of (refused_line refusal) out.old }
+pub fn refusal_text(refusal: Refusal, out: &mut [u8]) -> usize
+    ensures { outputs out.new result ≡ output_of (refused_line (number refusal)) out.old }
+{
+    number_text(refusal.number(), out)
+}
+
+// The same of a refusal's number.
+pub fn number_text(number: u8, out: &mut [u8]) -> usize
+    ensures { outputs out.new result ≡ output_of (refused_line number) out.old }
 {
     if out.len() < ROOM {
         return 0;
     }
     let mut text = Text { out, len: 0 };
-    refused_line(&mut text, refusal);
+    refused_line(&mut text, number);
     text.len
 }

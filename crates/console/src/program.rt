@@ -1,14 +1,13 @@
 // The whole program on lent bytes.
 ghost use Rattle.std.specs.Prelude.{◌≡◌, true};
-ghost use Rattle.instance.specs.Sheet.{instance_of, refusal_of};
+ghost use Rattle.instance.specs.Sheet.{instance_of};
 ghost use Rattle.rules.specs.Calls.{lengths_ok};
 ghost use Rattle.messages.specs.Lent.{lent};
 ghost use Rattle.console.specs.Output.{outputs, output_of};
 ghost use Rattle.console.specs.Program.{printed};
 
 use crate::printing::{compose, refusal_text};
-use instance::read;
-use instance::refusal::{NONE, PARTIAL_RECORD};
+use instance::{Refusal, Sheet};
 use messages::{open, report, run};
 
 // The most bytes of records: 8,192 records.
@@ -24,19 +23,37 @@ fn answer_in(
     incumbent: &mut [u8],
     out: &mut [u8],
 ) -> usize
-    requires { refusal_of sheet.now ≡ 0 → lengths_ok (instance_of sheet.now) (lent nodes.old labels.old edges.old incumbent.old) ≡ true }
+    requires { lengths_ok (instance_of sheet.now) (lent nodes.old labels.old edges.old incumbent.old) ≡ true }
     ensures { outputs out.new result ≡ output_of (printed sheet.now records.now) out.old }
 {
-    let refusal = open(sheet, nodes, labels, edges, incumbent);
-    if refusal != NONE {
+    if let Err(refusal) = open(sheet, nodes, labels, edges, incumbent) {
         return refusal_text(refusal, out);
     }
     if MOST_BYTES < records.len() {
-        return refusal_text(PARTIAL_RECORD, out);
+        return refusal_text(Refusal::PartialRecord, out);
     }
     let ran = run(sheet, records, nodes, labels, edges, incumbent);
     let told = report(sheet, nodes, labels, edges, incumbent);
     compose(ran, told, out)
+}
+
+// The answer of a sheet that was read.
+fn answer_of(sheet: &Sheet, records: &[u8], out: &mut [u8]) -> usize
+    ensures { outputs out.new result ≡ output_of (printed sheet.now.bytes.now records.now) out.old }
+{
+    let mut nodes = [0i64; 1_024];
+    let mut labels = [0i64; 1_024];
+    let mut edges = [0i64; 4_096];
+    let mut incumbent = [0u8; 64];
+    answer_in(
+        sheet.bytes,
+        records,
+        &mut nodes[..sheet.positions],
+        &mut labels[..sheet.positions],
+        &mut edges[..sheet.cells],
+        &mut incumbent[..sheet.nodes],
+        out,
+    )
 }
 
 // Puts what the program prints at the start of out, and answers how many bytes that is; in a buffer of fewer than 256
@@ -44,21 +61,8 @@ fn answer_in(
 pub fn answer(sheet: &[u8], records: &[u8], out: &mut [u8]) -> usize
     ensures { outputs out.new result ≡ output_of (printed sheet.now records.now) out.old }
 {
-    let layout = read(sheet);
-    let n = layout.nodes;
-    let positions = layout.positions;
-    let cells = layout.cells;
-    let mut nodes = [0i64; 1_024];
-    let mut labels = [0i64; 1_024];
-    let mut edges = [0i64; 4_096];
-    let mut incumbent = [0u8; 64];
-    answer_in(
-        sheet,
-        records,
-        &mut nodes[..positions],
-        &mut labels[..positions],
-        &mut edges[..cells],
-        &mut incumbent[..n],
-        out,
-    )
+    match Sheet::read(sheet) {
+        Ok(sheet) => answer_of(&sheet, records, out),
+        Err(refusal) => refusal_text(refusal, out),
+    }
 }

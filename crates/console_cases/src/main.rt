@@ -1,7 +1,7 @@
 // Whole runs of the program, each under a heading. The files with a number are runs of an independent implementation.
 #![tactic(auto)]
 
-use messages::{Answer, Report};
+use messages::{Answer, Refusal, Report};
 use std::fs::{self, Files};
 use std::io::{self, Print};
 
@@ -114,7 +114,7 @@ fn run_files<R: Files + Print>(rt: &R, sheet: &str, records: &str) -> io::Result
     }
 }
 
-fn show_text<R: Print>(rt: &R, answer: Answer, report: Report) -> io::Result<()> {
+fn show_text<R: Print>(rt: &R, answer: Answer, report: Result<Report, Refusal>) -> io::Result<()> {
     terminal::write_text(
         &mut io::writer(rt),
         |text| console::compose(answer, report, text),
@@ -126,15 +126,15 @@ fn extreme_cases<R: Print>(rt: &R) -> io::Result<()> {
     let ran = Answer {
         done: usize::MAX,
         stuck: 10,
-        refusal: 13,
+        refusal: Some(Refusal::CostOverflow),
     };
     heading(rt, "the longest text")?;
-    show_text(rt, ran, Report::Kept(i64::MIN, i64::MAX, -10))?;
+    show_text(rt, ran, Ok(Report::Kept(i64::MIN, i64::MAX, -10)))?;
     heading(rt, "a report refused")?;
-    show_text(rt, ran, Report::Refused(14))?;
+    show_text(rt, ran, Err(Refusal::BoundAboveCost))?;
     heading(rt, "a buffer of 255 bytes")?;
     let mut short = [0u8; 255];
-    let count = console::compose(ran, Report::Bound(0), &mut short);
+    let count = console::compose(ran, Ok(Report::Bound(0)), &mut short);
     println!(rt; "{count}")
 }
 

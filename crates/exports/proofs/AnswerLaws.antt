@@ -1,6 +1,6 @@
 -- The answers of a reading, of a run and of a report, stored or not.
 -- Assumes nothing.
-use mathlib.Core.Path.{◌≡◌, sym, ap, ◌∙◌}
+use mathlib.Core.Path.{◌≡◌, refl, sym, ap, ◌∙◌}
 use mathlib.Core.List.{List, [], ◌∷◌}
 use Prim.Native.Nat.{ℕ}
 use borrow.Author.Tests.{eq-eqb, ne_eqb}
@@ -12,6 +12,10 @@ use Rattle.instance.specs.Layout.{layout_of}
 use Rattle.rules.specs.Costs.{Buffers}
 use Rattle.rules.specs.Run.{Ran}
 use Rattle.rules.specs.Calls.{Report, cost_limit, run_of, report_of}
+use Rattle.std.specs.Prelude.{Ok}
+use Rattle.messages.specs.declared.answers.Report.{Report as Told}
+use Rattle.messages.specs.declared.answers.Report.TheVariants.{Bound, Kept}
+use Rattle.messages.specs.Answers.{reported_as}
 use Rattle.exports.specs.Stored.{answered, unlent}
 use Rattle.exports.specs.Reading.{numbers_of, read_in}
 use Rattle.exports.specs.Moving.{outcome, outcome_of, ran_in, number_of, values_in, reported_in}
@@ -26,6 +30,12 @@ module _ (s lent : List ℕ) where
   pub read_ill : {r : ℕ} → (length lent ≡ 326 → ⊥) → r ≡ unlent (refusal_of s) → answered r lent ≡ read_in s lent
   unfolding read_in
   read_ill h e = lent_ill 326 (refusal_of s) (answered (refusal_of s) (numbers_of (layout_of s))) lent h e
+
+-- a report that was not refused answers 0
+pub told_zero : (t : Told) → number_of (reported_as (Ok t)) ≡ 0
+unfolding number_of
+told_zero (Bound z) = refl
+told_zero (Kept z p g) = refl
 
 -- a report told, by its case
 module _ (s : List ℕ) (b : Buffers) (values : List ℤ) where

@@ -1,6 +1,6 @@
--- The numbers of a reading: the two arrays have 64 and 256 places, refused or not.
+-- The numbers of a reading: the node starts have 64 places, refused or not.
 -- Assumes nothing.
-use mathlib.Core.Path.{◌≡◌, refl}
+use mathlib.Core.Path.{◌≡◌}
 use mathlib.Core.List.{List, ◌++◌}
 use Prim.Native.Nat.{ℕ}
 use lib.Dec.{eqb}
@@ -18,16 +18,6 @@ unfolding layout_of answer_of described refused_by
 starts_long s =
     by_cond (λ (l : Layout). length l.starts ≡ 64) (eqb (refusal_of s) 0)
     (λ e. length-padded 64 (instance_of s).node_count (first (instance_of s))) (λ e. length-replicate {A = ℕ} 64 0)
-
-pub tables_long : (s : List ℕ) → length (layout_of s).tables ≡ 256
-unfolding layout_of answer_of described refused_by
-tables_long s =
-    by_cond (λ (l : Layout). length l.tables ≡ 256) (eqb (refusal_of s) 0)
-    (λ e. length-padded 256 (instance_of s).edge_count (table (instance_of s))) (λ e. length-replicate {A = ℕ} 256 0)
-
-pub counts_long : (l : Layout) → length (counts_of l) ≡ 6
-unfolding counts_of
-counts_long l = refl
 
 -- the three parts together
 pub numbers_by : (l : Layout) {counts starts tables : List ℕ} → counts ≡ counts_of l → starts ≡ l.starts → tables ≡ l.tables → counts ++ (starts ++ tables) ≡ numbers_of l

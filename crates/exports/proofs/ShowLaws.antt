@@ -1,84 +1,68 @@
--- Showing an edge: its table ends where the next one begins, and what is shown has that many bytes.
+-- Showing an edge: where what is shown begins and how many bytes it has, or neither.
 -- Assumes nothing.
 use mathlib.Core.Path.{◌≡◌, sym, ap, ap₂, ◌∙◌}
 use mathlib.Core.List.{List, [], ◌∷◌}
-use Prim.Native.Nat.{ℕ, ◌+◌, ◌-◌, ◌*◌, ◌≤◌}
+use Prim.Native.Nat.{ℕ, ◌+◌, ◌*◌, ◌≤◌, ◌<◌}
 use native.Mathlib.Omega.{arith}
-use borrow.Author.Tests.{ltb-true, ltb-false}
-use lib.Dec.{ltb}
-use lib.ListN.{length, drop, length-drop}
+use lib.ListN.{length, get_or, drop, length-drop}
 use lib.Seq.{length-take-le}
-use Rattle.integers.proofs.Places.{by_cond}
-use Rattle.integers.proofs.Totals.{offset_more}
-use Rattle.instance.specs.declared.reading.Layout.{Layout}
-use Rattle.instance.specs.Instance.{Instance, first, table_size, table}
+use Rattle.std.specs.Prelude.{Result, Ok, Err, IfOk}
+use Rattle.std.specs.Result.{result_unwrap_or}
+use Rattle.instance.specs.declared.refusal.Refusal.{Refusal}
+use Rattle.instance.specs.declared.sheet.Sheet.{Sheet}
+use Rattle.instance.specs.Instance.{table_size}
 use Rattle.instance.specs.Sheet.{instance_of}
-use Rattle.instance.specs.Layout.{layout_of, edge_refusal_of, edge_from, edge_bytes, EdgeAsked}
-use Rattle.instance.proofs.LaidOut.{LaidOut, laid_out, table_inside, table_few}
-use Rattle.instance.proofs.Shown.{laid, there, unrefused, edge_inside, edge_shown, edge_placed, edge_hidden, edge_unplaced}
+use Rattle.instance.specs.Refusal.{refused_in}
+use Rattle.instance.specs.Layout.{edge_refusal_of, edge_from, edge_bytes}
+use Rattle.instance.proofs.Told.{numbered}
+use Rattle.instance.proofs.Sheets.{whole, table_is, table_here, cells_few, edge_there as there}
+use Rattle.instance.proofs.Shown.{edge_there, edge_inside, edge_shown, edge_placed, edge_hidden, edge_unplaced}
 use Rattle.exports.specs.Stored.{answered, unlent}
-use Rattle.exports.specs.Reading.{table_in, span_of, shown_in}
+use Rattle.exports.specs.Reading.{span_of, shown_in}
 use Rattle.exports.proofs.StoreLaws.{lent_well, lent_ill}
 
-abbrev I : List ℕ → Instance
-I s = instance_of s
+-- ---- an edge of a sheet that was read
 
--- ---- where tables begin and end
+module _ (x : Sheet) {e : ℕ} (h : e < x.edges) where
+  abbrev s : List ℕ
+  s = x.bytes.now
 
-module _ (s : List ℕ) {l : Layout} {e : ℕ} (q : (l ≡ layout_of s) × (l.refusal ≡ 0) × (e ≤ l.edges)) where
-  laid_well : LaidOut s l
-  laid_well = laid_out s q.0 q.1
+  pub unrefused : edge_refusal_of s e ≡ 0
+  unrefused = edge_there s e x.readable (there x h)
 
-  pub table_in_lem : table_in l e ≡ table (I s) e
-  table_in_lem =
-      by_cond (λ (k : ℕ). k ≡ table (I s) e) (ltb e l.edges)
-      (λ t. laid_well.tables e (omega (arith, ltb-true e l.edges t, laid_well.edges)))
-      (λ t. let k : (I s).edge_count ≡ e = omega (arith, q.2, ltb-false e l.edges t, laid_well.edges) in laid_well.cells ∙ ap (table (I s)) k)
+  pub table_small : get_or x.tables e 0 ≤ 4_096
+  table_small = omega (arith, table_is x h, table_here x h, cells_few x)
 
--- ---- what is shown of an edge
+  from_by : x.edge_prices + 4 * get_or x.tables e 0 ≡ edge_from s e
+  unfolding edge_from
+  from_by = ap₂ (λ (a t : ℕ). a + 4 * t) x.placed.2 (table_is x h)
 
--- two ends of a table, so small that no sum of them wraps
-pub record TableEnds (s : List ℕ) (e from to : ℕ) : Type 0 where
-  pub small : from ≤ 4_096
-  pub size : to ≡ from + table_size (I s) e
-  pub few : table_size (I s) e ≤ 256
-
-module _ (s : List ℕ) {l : Layout} {e : ℕ} (a : EdgeAsked s l e) where
-  pub known : LaidOut s l
-  known = laid s a
-
-  pub sized : {from to : ℕ} → from ≡ table (I s) e → to ≡ table (I s) (e + 1) → TableEnds s e from to
-  unfolding table
-  sized f t = record {
-    small = omega (arith, f, table_inside (instance_of s) (there s a), known.sound.proper.cells_few);
-    size = t ∙ offset_more (table_size (I s)) e ∙ ap (λ (x : ℕ). x + table_size (I s) e) (sym f);
-    few = table_few known.sound.proper (there s a);
-  }
-
-  from_by : {from : ℕ} → from ≡ table (I s) e → l.nodes + 5 * l.positions + 2 * l.edges + 4 * from ≡ edge_from s e
-  unfolding edge_from first instance_of
-  from_by f = omega (arith, known.nodes, known.positions, known.edges, f)
-
-  bytes_by : {from to : ℕ} → TableEnds s e from to → 4 * (to - from) ≡ edge_bytes s e
+  bytes_by : {n : ℕ} → n ≡ table_size (instance_of s) e → 4 * n ≡ edge_bytes s e
   unfolding edge_bytes
-  bytes_by z = omega (arith, z)
+  bytes_by q = ap (λ (n : ℕ). 4 * n) q
 
   span_shown : (edge_from s e ∷ edge_bytes s e ∷ []) ≡ span_of s e
   unfolding span_of
   span_shown =
-      let z = unrefused s a in
-      let i = edge_inside s e (laid s a).sound (there s a) in
+      let i = edge_inside s e (whole x) (there x h) in
       let d = length-drop (edge_from s e) s in
-      ap₂ (λ (p b : ℕ). p ∷ b ∷ []) (sym (edge_placed s e z))
-      (sym (ap length (edge_shown s e z) ∙ length-take-le (edge_bytes s e) (drop (edge_from s e) s) (omega arith)))
+      ap₂ (λ (p b : ℕ). p ∷ b ∷ []) (sym (edge_placed s e unrefused))
+      (sym (ap length (edge_shown s e unrefused) ∙ length-take-le (edge_bytes s e) (drop (edge_from s e) s) (omega arith)))
 
-  pub span_by : {from to : ℕ} → from ≡ table (I s) e → to ≡ table (I s) (e + 1) → ((l.nodes + 5 * l.positions + 2 * l.edges + 4 * from) ∷ (4 * (to - from)) ∷ []) ≡ span_of s e
-  span_by f t = ap₂ (λ (p b : ℕ). p ∷ b ∷ []) (from_by f) (bytes_by (sized f t)) ∙ span_shown
+  pub span_by : {n : ℕ} → n ≡ table_size (instance_of s) e → ((x.edge_prices + 4 * get_or x.tables e 0) ∷ (4 * n) ∷ []) ≡ span_of s e
+  span_by q = ap₂ (λ (p b : ℕ). p ∷ b ∷ []) from_by (bytes_by q) ∙ span_shown
+
+-- ---- what is stored
 
 module _ (s : List ℕ) (e : ℕ) where
-  pub span_hidden : (edge_refusal_of s e ≡ 0 → ⊥) → (0 ∷ 0 ∷ []) ≡ span_of s e
+  span_hidden : (edge_refusal_of s e ≡ 0 → ⊥) → (0 ∷ 0 ∷ []) ≡ span_of s e
   unfolding span_of
   span_hidden z = ap₂ (λ (p b : ℕ). p ∷ b ∷ []) (sym (edge_unplaced s e z)) (sym (ap length (edge_hidden s e z)))
+
+  -- 0 and 0 in place of a span
+  pub span_or : (r : Result (List ℕ) Refusal) → refused_in r ≡ edge_refusal_of s e → IfOk r (λ p. p ≡ span_of s e) → result_unwrap_or r (0 ∷ 0 ∷ []) ≡ span_of s e
+  span_or (Ok p) q h = h
+  span_or (Err r) q h = span_hidden (λ z. omega (arith, numbered r, q, z))
 
   -- a number and a span stored, or neither
   pub shown_by : {k : ℕ} (span : List ℕ) {lent : List ℕ} → length span ≡ 2 → k ≡ edge_refusal_of s e → lent ≡ span_of s e → answered k lent ≡ shown_in s e span

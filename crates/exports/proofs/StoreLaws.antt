@@ -6,11 +6,19 @@ use Prim.Native.Nat.{ℕ, ◌+◌, ◌≤◌}
 use native.Mathlib.Omega.{arith}
 use borrow.Author.Tests.{eq-eqb, ne_eqb}
 use lib.ListN.{length, get_or, take, drop, length-append, length-take, length-drop, drop_of_length-le}
-use lib.Seq.{ext_get_or, sets, sets-eq, take_at, drop_at, drop-drop}
+use lib.Seq.{ext_get_or, take_at, drop_at, drop-drop}
 use borrow.Rule.Slice.PartMut.{put_mid}
 use Rattle.integers.specs.Places.{tabulate}
 use Rattle.integers.proofs.Places.{if-true, if-false, length-tabulate, get_d_tabulate}
+use Rattle.instance.specs.declared.refusal.Refusal.{Refusal}
+use Rattle.instance.specs.Refusal.{number}
+use Rattle.instance.proofs.Told.{numbered}
 use Rattle.exports.specs.Stored.{Answered, answered, unlent, answered_in}
+
+-- the number of a refusal comes before 8
+pub unlent_refused : (r : Refusal) → number r ≡ unlent (number r)
+unfolding unlent
+unlent_refused r = sym (if-false _ _ (ne_eqb (number r) 0 (λ z. omega (arith, numbered r, z))))
 
 module _ {A : Type 0} where
   -- a buffer with that many places, and one without
@@ -28,15 +36,7 @@ module _ {A : Type 0} where
       ext_get_or d (tabulate (length vs) (λ k. get_or vs k d)) vs (length-tabulate (length vs) (λ k. get_or vs k d))
       (λ k h. let n = length-tabulate (length vs) (λ k. get_or vs k d) in get_d_tabulate (length vs) (λ k. get_or vs k d) k d (omega arith))
 
-  -- stores into each place of a list
-  pub all_set : (vs l : List A) → length l ≡ length vs → sets l 0 vs ≡ vs
-  all_set vs l h =
-      sets-eq vs l 0 (omega arith) ∙ ap (λ (t : List A). vs ++ t) (drop_of_length-le l {i = 0 + length vs} (omega arith)) ∙ append-nil vs
-
   -- ---- parts that were lent one after the other, and have come back
-
-  part_long : (m k : ℕ) (l : List A) → m + k ≤ length l → length (take k (drop m l)) ≡ k
-  part_long m k l h = simp (length-take, length-drop) (omega arith)
 
   put_next : (m k : ℕ) (a b t : List A) → length a ≡ m → put_mid m k (a ++ t) b ≡ (a ++ b) ++ drop k t
   put_next m k a b t h =
@@ -44,25 +44,12 @@ module _ {A : Type 0} where
 
   -- of 326 places: 6, then 64, then 256
   module _ (l a : List A) (n : length l ≡ 326) (six : length a ≡ 6) where
-    pub second_long : length (take 64 (drop 6 (a ++ drop 6 l))) ≡ 64
-    second_long =
-        let t = length-append a (drop 6 l) in
-        let d = length-drop 6 l in
-        part_long 6 64 (a ++ drop 6 l) (omega arith)
-
     module _ (b : List A) (more : length b ≡ 64) where
       both_put : put_mid 6 64 (a ++ drop 6 l) b ≡ (a ++ b) ++ drop 70 l
       both_put = put_next 6 64 a b (drop 6 l) six ∙ ap (λ (t : List A). (a ++ b) ++ t) (drop-drop 64 6 l)
 
       both_long : length (a ++ b) ≡ 70
       both_long = let t = length-append a b in omega arith
-
-      pub third_long : length (take 256 (drop 70 (put_mid 6 64 (a ++ drop 6 l) b))) ≡ 256
-      third_long =
-          let t = length-append (a ++ b) (drop 70 l) in
-          let d = length-drop 70 l in
-          let e = both_long in
-          rw both_put (part_long 70 256 ((a ++ b) ++ drop 70 l) (omega arith))
 
       pub all_put : (d : List A) → put_mid 70 256 (put_mid 6 64 (a ++ drop 6 l) b) d ≡ a ++ (b ++ d)
       all_put d =

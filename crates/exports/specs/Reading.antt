@@ -17,10 +17,6 @@ numbers_of l = counts_of l ++ (l.starts ++ l.tables)
 unfoldable pub read_in : List ℕ → List ℕ → Answered ℕ
 read_in s lent = answered_in 326 (refusal_of s) (answered (refusal_of s) (numbers_of (layout_of s))) lent
 
--- where the table of an edge begins, by what reading answered, counted in cells; past the last edge, where all tables end
-abbrev pub table_in : Layout → ℕ → ℕ
-table_in l e = cond (ltb e l.edges) (get_or l.tables e 0) l.cells
-
 -- where the shown part begins in the sheet, and how many bytes it has: 0 and 0 where the edge is not shown
 unfoldable pub span_of : List ℕ → ℕ → List ℕ
 span_of s e = edge_place_of s e ∷ length (edge_prices_of s e) ∷ []

@@ -1,12 +1,13 @@
 // Opening, running, reporting.
-ghost use Rattle.std.specs.Prelude.{◌≡◌};
+ghost use Rattle.std.specs.Prelude.{◌≡◌, length};
 ghost use Rattle.rules.specs.Calls.{open_of};
 ghost use Rattle.messages.specs.Lent.{lent, opens};
 ghost use Rattle.exports.specs.Stored.{answered};
-ghost use Rattle.exports.specs.Moving.{outcome, ran_in, reported_in};
+ghost use Rattle.messages.specs.Answers.{reported_as};
+ghost use Rattle.exports.specs.Moving.{outcome, ran_in, values_in, reported_in};
 
-use crate::storing::{copy, refuse_length, store_costs};
-use instance::read;
+use crate::storing::{code, copy, refuse_length, store_costs};
+use instance::Sheet;
 use instance::refusal::NONE;
 use messages::{Report, open, report, run};
 
@@ -21,7 +22,7 @@ pub extern "C" fn cirbaldu_open(
 ) -> u8
     ensures { opens (lent nodes.new labels.new edges.new incumbent.new) result ≡ open_of sheet.now (lent nodes.old labels.old edges.old incumbent.old) }
 {
-    open(sheet, nodes, labels, edges, incumbent)
+    code(open(sheet, nodes, labels, edges, incumbent))
 }
 
 // Runs a list of records; answers the refusal. `counts`, of two places, has the records done and the roundings stuck.
@@ -38,13 +39,26 @@ pub extern "C" fn cirbaldu_run(
     ensures { outcome (lent nodes.new labels.new edges.new incumbent.new) result counts.new ≡ ran_in sheet.now (lent nodes.old labels.old edges.old incumbent.old) records.now counts.old }
 {
     if counts.len() != 2 {
-        let layout = read(sheet);
-        return refuse_length(layout.refusal);
+        return refuse_length(Sheet::read(sheet));
     }
     let answer = run(sheet, records, nodes, labels, edges, incumbent);
     let both = [answer.done, answer.stuck];
     copy(&both, counts);
-    answer.refusal
+    match answer.refusal {
+        Some(refusal) => refusal.number(),
+        None => NONE,
+    }
+}
+
+// The values of a report.
+fn store_report(report: Report, values: &mut [i64])
+    requires { length values.old ≡ 4 }
+    ensures { values.new ≡ values_in values.old (reported_as (Ok report)) }
+{
+    match report {
+        Report::Bound(bound) => store_costs(0, bound, 0, 0, values),
+        Report::Kept(bound, cost, gap) => store_costs(1, bound, cost, gap, values),
+    }
 }
 
 // Reports; answers the refusal. `values`, of four places, has 1 if a matching is kept, the bound, its cost and the gap, 0
@@ -61,19 +75,13 @@ pub extern "C" fn cirbaldu_report(
     ensures { answered result values.new ≡ reported_in sheet.now (lent nodes.now labels.now edges.now incumbent.now) values.old }
 {
     if values.len() != 4 {
-        let layout = read(sheet);
-        return refuse_length(layout.refusal);
+        return refuse_length(Sheet::read(sheet));
     }
-    let told = report(sheet, nodes, labels, edges, incumbent);
-    match told {
-        Report::Refused(refusal) => refusal,
-        Report::Bound(bound) => {
-            store_costs(0, bound, 0, 0, values);
+    match report(sheet, nodes, labels, edges, incumbent) {
+        Ok(told) => {
+            store_report(told, values);
             NONE
         }
-        Report::Kept(bound, cost, gap) => {
-            store_costs(1, bound, cost, gap, values);
-            NONE
-        }
+        Err(refusal) => refusal.number(),
     }
 }

@@ -1,28 +1,39 @@
 // Reading, and showing an edge.
-ghost use Rattle.std.specs.Prelude.{◌≡◌, ◌≤◌, length};
-ghost use Rattle.instance.specs.Layout.{EdgeAsked};
+ghost use Rattle.std.specs.Prelude.{◌≡◌, length, IfOk};
+ghost use Rattle.instance.specs.Refusal.{number, refused_in};
+ghost use Rattle.instance.specs.Layout.{refused_by, layout_of, edge_refusal_of};
 ghost use Rattle.exports.specs.Stored.{answered};
-ghost use Rattle.exports.specs.Reading.{counts_of, read_in, table_in, span_of, shown_in};
+ghost use Rattle.exports.specs.Reading.{read_in, numbers_of, span_of, shown_in};
 
-use crate::storing::{copy, refuse_length};
-use index::wide;
+use crate::storing::{code, copy, refuse_length};
 use instance::refusal::NONE;
-use instance::{Layout, edge_refusal_in, read};
+use instance::{Refusal, Sheet};
 
-// The refusal and the five counts.
-fn copy_counts(layout: Layout, lent: &mut [u64])
-    requires { length lent.old ≡ 6 }
-    ensures { lent.new ≡ counts_of layout }
+// The numbers of a sheet: the refusal, which is none, the five counts, and then the node starts and the edge starts.
+fn store_sheet(sheet: &Sheet, answer: &mut [u64])
+    requires { length answer.old ≡ 326 }
+    ensures { answer.new ≡ numbers_of (layout_of sheet.now.bytes.now) }
 {
     let counts = [
-        wide(layout.refusal),
-        layout.nodes,
-        layout.labels,
-        layout.edges,
-        layout.positions,
-        layout.cells,
+        0,
+        sheet.nodes,
+        sheet.labels,
+        sheet.edges,
+        sheet.positions,
+        sheet.cells,
     ];
-    copy(&counts, lent);
+    copy(&counts, &mut answer[..6]);
+    copy(&sheet.starts, &mut answer[6..70]);
+    copy(&sheet.tables, &mut answer[70..326]);
+}
+
+// The numbers of a refused sheet: the refusal, and 0 in all other places.
+fn store_refusal(refusal: Refusal, answer: &mut [u64])
+    requires { length answer.old ≡ 326 }
+    ensures { answer.new ≡ numbers_of (refused_by (number refusal)) }
+{
+    answer.fill(0);
+    answer[0] = u64::from(refusal.number());
 }
 
 // Reads a sheet; answers the refusal. `answer`, of 326 places, has the refusal, n, L, E, N, M, the 64 node starts and the
@@ -31,42 +42,33 @@ fn copy_counts(layout: Layout, lent: &mut [u64])
 pub extern "C" fn cirbaldu_read(sheet: &[u8], answer: &mut [u64]) -> u8
     ensures { answered result answer.new ≡ read_in sheet.now answer.old }
 {
-    let layout = read(sheet);
+    let read = Sheet::read(sheet);
     if answer.len() != 326 {
-        return refuse_length(layout.refusal);
+        return refuse_length(read);
     }
-    let starts = layout.starts;
-    let tables = layout.tables;
-    copy_counts(layout, &mut answer[..6]);
-    copy(&starts, &mut answer[6..70]);
-    copy(&tables, &mut answer[70..326]);
-    layout.refusal
-}
-
-// Where the table of an edge begins, counted in cells; past the last edge, where all tables end.
-fn table_at(layout: Layout, edge: usize) -> usize
-    requires { layout.edges ≤ 256 }
-    ensures { result ≡ table_in layout edge }
-{
-    if edge < layout.edges {
-        let tables = layout.tables;
-        tables[edge]
-    } else {
-        layout.cells
+    match read {
+        Ok(sheet) => {
+            store_sheet(&sheet, answer);
+            NONE
+        }
+        Err(refusal) => {
+            store_refusal(refusal, answer);
+            refusal.number()
+        }
     }
 }
 
-// The span of an edge that is there.
-fn store_span(sheet: &[u8], layout: Layout, edge: usize, span: &mut [u64])
-    requires edge_asked { EdgeAsked sheet.now layout edge }
-    requires span_len { length span.old ≡ 2 }
-    ensures { span.new ≡ span_of sheet.now edge }
+// Where the prices of an edge begin in the sheet, and how many bytes they take; or why the edge is not shown.
+fn edge_span(sheet: &[u8], edge: usize) -> Result<[usize; 2], Refusal>
+    ensures refusal { refused_in result ≡ edge_refusal_of sheet.now edge }
+    ensures span { IfOk result (λ p. p ≡ span_of sheet.now edge) }
 {
-    let prices = layout.nodes + 5 * layout.positions + 2 * layout.edges;
-    let from = table_at(layout, edge);
-    let to = table_at(layout, edge + 1);
-    let place = [prices + 4 * from, 4 * (to - from)];
-    copy(&place, span);
+    let sheet = Sheet::read(sheet)?;
+    if sheet.edges <= edge {
+        return Err(Refusal::NoSuchRecord);
+    }
+    let from = sheet.edge_prices + 4 * sheet.tables[edge];
+    Ok([from, 4 * sheet.size(edge)])
 }
 
 // Shows an edge; answers the refusal. `span`, of two places, has where its prices begin in the sheet and how many bytes
@@ -75,16 +77,11 @@ fn store_span(sheet: &[u8], layout: Layout, edge: usize, span: &mut [u64])
 pub extern "C" fn cirbaldu_edge(sheet: &[u8], edge: usize, span: &mut [u64]) -> u8
     ensures { answered result span.new ≡ shown_in sheet.now edge span.old }
 {
-    let layout = read(sheet);
-    let refusal = edge_refusal_in(layout, edge);
+    let shown = edge_span(sheet, edge);
     if span.len() != 2 {
-        return refuse_length(refusal);
+        return refuse_length(shown);
     }
-    if refusal == NONE {
-        store_span(sheet, layout, edge, span);
-        return NONE;
-    }
-    let nowhere = [0, 0];
-    copy(&nowhere, span);
-    refusal
+    let place = shown.unwrap_or([0, 0]);
+    copy(&place, span);
+    code(shown)
 }

@@ -1,17 +1,29 @@
-// Storing numbers in a lent buffer, and the refusal of one that has another number of places.
+// Storing numbers in a lent buffer, and answering a refusal by its number.
 ghost use Rattle.std.specs.Prelude.{◌≡◌, [], ◌∷◌, length};
+ghost use Rattle.instance.specs.Refusal.{refused_in};
 ghost use Rattle.exports.specs.Stored.{unlent};
 
+use instance::Refusal;
 use instance::refusal::{BUFFER_LENGTH, NONE};
 
-// The refusals that come before 8, and then 8.
-pub(crate) fn refuse_length(before: u8) -> u8
-    ensures { result ≡ unlent before }
+// The number of the refusal, 0 where there is none.
+pub(crate) fn code<T: Drop>(answer: Result<T, Refusal>) -> u8
+    ensures { result ≡ refused_in answer }
 {
-    if before == NONE {
-        BUFFER_LENGTH
-    } else {
-        before
+    match answer {
+        Ok(_) => NONE,
+        Err(refusal) => refusal.number(),
+    }
+}
+
+// Of a buffer with another number of places: the refusals that come before 8, and then 8.
+#[tactic(auto, using(crate::proofs::StoreLaws::unlent_refused), unfolding(crate::specs::Stored::unlent))]
+pub(crate) fn refuse_length<T: Drop>(before: Result<T, Refusal>) -> u8
+    ensures { result ≡ unlent (refused_in before) }
+{
+    match before {
+        Ok(_) => BUFFER_LENGTH,
+        Err(before) => before.number(),
     }
 }
 
@@ -19,10 +31,8 @@ pub(crate) fn copy(values: &[usize], lent: &mut [u64])
     requires { length lent.old ≡ length values.now }
     ensures { lent.new ≡ values.now }
 {
-    let mut i = 0;
-    while i < values.len() {
-        lent[i] = values[i] as u64;
-        i += 1;
+    for (i, place) in lent.iter_mut().enumerate() {
+        *place = values[i] as u64;
     }
 }
 
@@ -31,8 +41,5 @@ pub(crate) fn store_costs(kept: i64, bound: i64, cost: i64, gap: i64, lent: &mut
     requires { length lent.old ≡ 4 }
     ensures { lent.new ≡ (kept ∷ bound ∷ cost ∷ gap ∷ []) }
 {
-    lent[0] = kept;
-    lent[1] = bound;
-    lent[2] = cost;
-    lent[3] = gap;
+    lent.copy_from_slice(&[kept, bound, cost, gap]);
 }

@@ -2,7 +2,7 @@
 use crate::hash::Hash;
 use crate::reader::Reader;
 use arrayvec::ArrayVec;
-use messages::{Answer, Report};
+use messages::{Answer, Refusal, Report};
 
 #[derive(Clone, Copy, Debug, PartialEq, Eq)]
 pub enum Buffer {
@@ -122,7 +122,7 @@ impl Buffers {
         }
     }
 
-    pub fn open(&mut self, sheet: &[u8]) -> u8 {
+    pub fn open(&mut self, sheet: &[u8]) -> Result<(), Refusal> {
         messages::open(
             sheet,
             self.nodes.as_mut_slice(),
@@ -143,7 +143,7 @@ impl Buffers {
         )
     }
 
-    pub fn report(&self, sheet: &[u8]) -> Report {
+    pub fn report(&self, sheet: &[u8]) -> Result<Report, Refusal> {
         messages::report(
             sheet,
             self.nodes.as_slice(),

@@ -9,6 +9,7 @@ use crate::hash::Hash;
 use crate::ops::Op;
 use crate::reader::Reader;
 use instance::refusal::NO_MATCHING;
+use instance::{Refusal, Sheet};
 use messages::Report;
 
 // A case that is gone through: its sheet, and its buffers, none once one was too long.
@@ -38,8 +39,8 @@ impl<'a> Case<'a> {
     fn open(&mut self, reader: &mut Reader) -> Option<bool> {
         let answers = reader.answers();
         let buffers = self.buffers.as_mut()?;
-        let refusal = buffers.open(self.sheet);
-        Some(answers.leave(&[u64::from(refusal)], buffers.hash()))
+        let opened = buffers.open(self.sheet);
+        Some(answers.leave(&[number(opened.err())], buffers.hash()))
     }
 
     // Run: a limit, of no account here, and the records; then the refusal, how many were done and how many stuck.
@@ -52,7 +53,7 @@ impl<'a> Case<'a> {
             return Some(false);
         };
         let ran = buffers.run(self.sheet, records);
-        let numbers = [u64::from(ran.refusal), ran.done as u64, ran.stuck as u64];
+        let numbers = [number(ran.refusal), ran.done as u64, ran.stuck as u64];
         Some(answers.leave(&numbers, buffers.hash()))
     }
 
@@ -61,13 +62,14 @@ impl<'a> Case<'a> {
         let _limit = reader.number();
         let answers = reader.answers();
         let buffers = self.buffers.as_ref()?;
-        let (refusal, kept, costs) = match buffers.report(self.sheet) {
-            Report::Refused(refusal) => (refusal, false, [0, 0, 0]),
-            Report::Bound(bound) => (0, false, [bound, 0, 0]),
-            Report::Kept(bound, cost, gap) => (0, true, [bound, cost, gap]),
+        let told = buffers.report(self.sheet);
+        let (kept, costs) = match told {
+            Ok(Report::Kept(bound, cost, gap)) => (true, [bound, cost, gap]),
+            Ok(Report::Bound(bound)) => (false, [bound, 0, 0]),
+            Err(_) => (false, [0, 0, 0]),
         };
         let [bound, cost, gap] = costs.map(i64::cast_unsigned);
-        let numbers = [u64::from(refusal), u64::from(kept), bound, cost, gap];
+        let numbers = [number(told.err()), u64::from(kept), bound, cost, gap];
         Some(answers.leave(&numbers, buffers.hash()))
     }
 
@@ -95,13 +97,18 @@ impl<'a> Case<'a> {
     }
 }
 
+// A refusal's number, 0 for none.
+fn number(refusal: Option<Refusal>) -> u64 {
+    refusal.map_or(0, |refusal| u64::from(refusal.number()))
+}
+
 // Show edge: the refusal and the length of the part, and the part as the output.
 fn show(sheet: &[u8], reader: &mut Reader) -> Option<bool> {
     let edge = reader.size();
     let answers = reader.answers();
-    let refusal = instance::edge_refusal(sheet, edge);
-    let prices = instance::edge_prices(sheet, edge);
-    let numbers = [u64::from(refusal), prices.len() as u64];
+    let shown = instance::shown_edge(sheet, edge);
+    let prices = shown.unwrap_or(&[]);
+    let numbers = [number(shown.err()), prices.len() as u64];
     Some(answers.are(&numbers, Hash::new().bytes(prices)))
 }
 
@@ -141,15 +148,22 @@ fn names_nodes(bytes: &[u8]) -> bool {
 // Read: the refusal and the counts, and where the nodes' cells and the edges' tables begin as the output.
 fn read(sheet: &[u8], reader: &mut Reader) -> Option<bool> {
     let answers = reader.answers();
-    let layout = instance::read(sheet);
-    let numbers = [
-        u64::from(layout.refusal),
-        layout.nodes as u64,
-        layout.labels as u64,
-        layout.edges as u64,
-        layout.positions as u64,
-        layout.cells as u64,
-    ];
-    let starts = Hash::new().words(&layout.starts);
-    Some(answers.are(&numbers, starts.words(&layout.tables)))
+    match Sheet::read(sheet) {
+        Ok(sheet) => {
+            let numbers = [
+                0,
+                sheet.nodes as u64,
+                sheet.labels as u64,
+                sheet.edges as u64,
+                sheet.positions as u64,
+                sheet.cells as u64,
+            ];
+            let starts = Hash::new().words(&sheet.starts);
+            Some(answers.are(&numbers, starts.words(&sheet.tables)))
+        }
+        Err(refusal) => {
+            let numbers = [u64::from(refusal.number()), 0, 0, 0, 0, 0];
+            Some(answers.are(&numbers, Hash::new().words(&[0; 320])))
+        }
+    }
 }

@@ -50,9 +50,9 @@ pub fn print<R: Print>(rt: &R, sheet: &[u8], records: &[u8]) -> io::Result<()> {
     )
 }
 
-// Prints the line of a refusal.
-pub fn print_refusal<W: Write>(to: &mut W, refusal: u8) -> io::Result<()> {
-    write_text(to, |text| console::refusal_text(refusal, text))
+// Prints the line of a refusal, by its number.
+pub fn print_refusal<W: Write>(to: &mut W, number: u8) -> io::Result<()> {
+    write_text(to, |text| console::number_text(number, text))
 }
 
 // The whole program: the sheet of a file, and the records of a reader.

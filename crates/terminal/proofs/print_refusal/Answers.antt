@@ -5,4 +5,4 @@ use Rattle.console.proofs.Outputs.{output_counts}
 use Rattle.terminal.proofs.print_refusal.Goals as goal
 
 pub write_text-requires-clause-within : goal.write_text-requires-clause-within
-write_text-requires-clause-within g c = λ before after count r. output_counts (refused_line c.args.refusal) before.now {b = after.now} {r = count} (search rules)
+write_text-requires-clause-within g c = λ before after count r. output_counts (refused_line c.args.number) before.now {b = after.now} {r = count} (search rules)

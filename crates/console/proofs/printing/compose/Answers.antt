@@ -4,6 +4,7 @@ use mathlib.Core.Path.{refl, ap, ◌∙◌}
 use mathlib.Core.List.{List}
 use Prim.Native.Nat.{ℕ}
 use borrow.Author.Rules.{rules}
+use Rattle.instance.specs.Refusal.{number_of}
 use Rattle.messages.specs.Answers.{reported_as}
 use Rattle.console.specs.Lines.{text_of}
 use Rattle.console.specs.Output.{outputs}
@@ -12,7 +13,7 @@ use Rattle.console.proofs.printing.compose.Goals as goal
 
 pub returns-then-out-lt-ROOM : goal.returns-then-out-lt-ROOM
 returns-then-out-lt-ROOM c =
-    out_short (text_of c.args.answer.done c.args.answer.stuck c.args.answer.refusal (reported_as c.args.report)) c.if-out-lt-ROOM.true
+    out_short (text_of c.args.answer.done c.args.answer.stuck (number_of c.args.answer.refusal) (reported_as c.args.report)) c.if-out-lt-ROOM.true
 
 pub returns : goal.returns
 returns c =

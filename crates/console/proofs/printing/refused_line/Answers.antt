@@ -10,4 +10,4 @@ use Rattle.console.proofs.printing.refused_line.Goals as goal
 
 pub returns : goal.returns
 unfolding refused_line
-returns c = wrote_as c.line.ensures.wrote (ap (line (ascii "refused ")) (decimal_is c.args.refusal (omega arith)))
+returns c = wrote_as c.line.ensures.wrote (ap (line (ascii "refused ")) (decimal_is c.args.number (omega arith)))

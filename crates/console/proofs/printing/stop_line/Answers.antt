@@ -1,14 +1,14 @@
 -- `stop_line` meets its contract, by whether the run stopped.
 -- Assumes nothing.
-use borrow.Author.Tests.{eq-eqb, ne_eqb}
-use Rattle.console.specs.Lines.{stop_line}
-use Rattle.console.proofs.WritingLaws.{wrote_none}
+use mathlib.Core.Path.{ap, ◌∙◌}
+use Rattle.console.specs.Lines.{refused_line, stop_line}
+use Rattle.console.proofs.RefusalLaws.{stopped_line}
+use Rattle.console.proofs.WritingLaws.{wrote_none, wrote_as}
 use Rattle.console.proofs.printing.stop_line.Goals as goal
 
-pub returns-then-refusal-ne-NONE : goal.returns-then-refusal-ne-NONE
-unfolding stop_line
-returns-then-refusal-ne-NONE c = rw (ne_eqb c.args.refusal 0 c.if-refusal-ne-NONE.true) c.refused_line.ensures
+pub returns-in-Some : goal.returns-in-Some
+returns-in-Some c = rw c.in-Some.is (wrote_as c.refused_line.ensures (ap refused_line c.number.ensures ∙ stopped_line c.in-Some.refusal))
 
-pub returns-else-refusal-ne-NONE : goal.returns-else-refusal-ne-NONE
+pub returns-in_default : goal.returns-in_default
 unfolding stop_line
-returns-else-refusal-ne-NONE c = rw (eq-eqb c.args.refusal 0 c.if-refusal-ne-NONE.false) (wrote_none c.args.text.now)
+returns-in_default c = rw c.in_default.is (wrote_none c.args.text.now)

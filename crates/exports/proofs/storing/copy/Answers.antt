@@ -12,8 +12,7 @@ pub loop-i-init : goal.loop-i-init
 loop-i-init c = fill_none _ _
 
 pub loop-i-preserved : goal.loop-i-preserved
-loop-i-preserved c =
-    fill_more (λ k. get_or c.args.values.now k 0) 0 c.loop-i.invariant (omega arith)
+loop-i-preserved c = fill_more (λ k. get_or c.args.values.now k 0) 0 c.loop-i.invariant (omega arith)
 
 pub returns : goal.returns
 returns c =
