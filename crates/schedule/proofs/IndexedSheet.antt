@@ -12,7 +12,7 @@ use Rattle.instance.specs.Sheet.{instance_of, ends_at}
 use Rattle.instance.specs.declared.sheet.Sheet.{Sheet}
 use Rattle.instance.proofs.LaidOut.{positions_few_lem}
 use Rattle.instance.proofs.Sheets.{proper, nodes_is, labels_is, edges_is, nodes_few, labels_few, node_there}
-use Rattle.instance.proofs.Indexes.{labels_indexed, highs_indexed, lows_indexed}
+use Rattle.instance.proofs.Indexes.{highs_indexed, lows_indexed}
 use Rattle.index.specs.Index.{many, held, Indexed}
 use Rattle.index.proofs.Indexed.{many_is}
 use Rattle.schedule.specs.declared.labels.Spot.{Spot}

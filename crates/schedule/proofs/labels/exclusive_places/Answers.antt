@@ -1,6 +1,5 @@
 -- `exclusive_places` meets its contract: one node after another.
-use Rattle.std.proofs.Common.{◌≡◌, ◌+◌, ◌*◌, ◌≤◌, sym, ◌∙◌, arith}
-use Rattle.integers.specs.Places.{offset}
+use Rattle.std.proofs.Common.{sym, arith}
 use Rattle.integers.proofs.Totals.{offset_more, offset_none}
 use Rattle.instance.specs.Sheet.{instance_of}
 use Rattle.instance.proofs.Sheets.{nodes_few}

@@ -1,5 +1,5 @@
 -- `backward_labels` meets its contract: the labels' lists by the places that have them.
-use Rattle.std.proofs.Common.{◌≡◌, ◌+◌, ◌-◌, ◌≤◌, length, sym, ap, subst, arith}
+use Rattle.std.proofs.Common.{◌≡◌, ◌+◌, ◌-◌, length, sym, ap, subst, arith}
 use Rattle.instance.specs.declared.sheet.Sheet.{Sheet}
 use Rattle.instance.specs.Instance.{Instance, first, node_cells}
 use Rattle.instance.specs.Sheet.{instance_of}

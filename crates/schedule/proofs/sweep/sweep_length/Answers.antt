@@ -1,5 +1,5 @@
 -- `sweep_length` meets its contract: the length of a sweep, and 0 where the sheet is refused.
-use Rattle.std.proofs.Common.{◌≡◌, ℕ, List, ap, ◌∙◌, arith, Bor}
+use Rattle.std.proofs.Common.{ℕ, List, ap, ◌∙◌, arith, Bor}
 use Rattle.instance.proofs.Told.{numbered}
 use Rattle.schedule.specs.Written.{sweep_room}
 use Rattle.schedule.proofs.Written.{room_none, room_is}
