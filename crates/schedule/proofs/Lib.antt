@@ -7,7 +7,6 @@ pub mod CountLaws
 pub mod Lengths
 pub mod LabelLaws
 pub mod SpotLaws
-pub mod NodeTurns
 pub mod IndexedSheet
 pub mod Written
 pub mod Legal

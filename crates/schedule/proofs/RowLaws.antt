@@ -1,4 +1,4 @@
--- A row of an index is a part of it.
+-- The rows of an index: how long, and what stands in them.
 -- Assumes nothing.
 use mathlib.Core.Path.{◌≡◌, sym, ap, ◌∙◌}
 use mathlib.Core.List.{List, map}
@@ -11,12 +11,6 @@ use Rattle.integers.proofs.Ranges.{range-part}
 use Rattle.index.specs.Index.{many, held}
 use Rattle.index.proofs.Indexed.{length-held}
 use Rattle.schedule.specs.Writing.{Rows}
-
-pub row_is : (index : List ℕ) (l n : ℕ) → n ≡ many index l → 65 * l + 1 + n ≤ length index → take (65 * l + 1 + n - (65 * l + 1)) (drop (65 * l + 1) index) ≡ held index l
-row_is index l n e h =
-    let a = 65 * l + 1 in
-    let d : a + n - a ≡ n = omega arith in
-    ap (λ (m : ℕ). take m (drop a index)) d ∙ sym (range-part index 0 a n h) ∙ ap (λ (m : ℕ). map (λ p. get_or index p 0) (range a m)) e
 
 pub row_long : (index : List ℕ) (l : ℕ) {r : List ℕ} → r ≡ held index l → length r ≡ many index l
 row_long index l e = ap length e ∙ length-held index l

@@ -1,13 +1,10 @@
 -- Contracts of the private functions: writing records one after another, and the records as the indexes have them.
 use Rattle.std.specs.Prelude.{◌≡◌, cond, List, ◌++◌, map, Option, Some, None, ℕ, ◌+◌, ◌-◌, ◌*◌, ◌≤◌, ◌<◌, eqb, length, get_or, take, drop}
 use Rattle.integers.specs.Places.{range, offset}
-use Rattle.instance.specs.Bytes.{byte}
-use Rattle.instance.specs.Layout.{Layout}
-use Rattle.instance.specs.Instance.{exclusive, node_cells}
-use Rattle.instance.specs.Sheet.{instance_of, refusal_of}
+use Rattle.instance.specs.Instance.{Instance, exclusive, first}
+use Rattle.instance.specs.Sheet.{instance_of, ends_at}
 use Rattle.index.specs.Index.{many, held, index_of}
 use Rattle.schedule.specs.declared.labels.Spot.{Spot}
-use Rattle.schedule.specs.declared.sweep.Counts.{Counts}
 use Rattle.schedule.specs.declared.sweep.Direction.{Direction}
 use Rattle.schedule.specs.declared.sweep.Direction.TheVariants.{Forward, Backward}
 use Rattle.schedule.specs.declared.sweep.End.{End}
@@ -63,27 +60,17 @@ received edges u = from_edges u (held edges u)
 abbrev pub sent : List ℕ → ℕ → ℕ → List Entry
 sent edges more u = to_edges u (many edges u + more) (held edges u)
 
--- how many positions of a node have another label than 255, which only its last can be; `past` is the place after its labels
-abbrev pub exclusive_count : List ℕ → ℕ → ℕ → ℕ
-exclusive_count s past degree = cond (exclusive (byte s (past - 1))) degree (degree - 1)
-
--- the same of node u, where the labels of n nodes follow their degrees
-abbrev pub exclusive_at : List ℕ → ℕ → ℕ → ℕ
-exclusive_at s n u = exclusive_count s (n + offset (byte s) u + byte s u) (byte s u)
-
--- the degrees and the labels of n nodes lie in a sheet, and each node has a label
-pub record Nodes (s : List ℕ) (n : ℕ) : Type 0 where
-  pub few : n ≤ 64
-  pub inside : n + offset (byte s) n ≤ length s
-  pub labelled : (u : ℕ) → u < n → 1 ≤ byte s u
+-- how many positions of a node have another label than 255, which only its last can be
+abbrev pub exclusive_count : Instance → ℕ → ℕ
+exclusive_count I u = cond (exclusive (I.label (first I u + (I.degree u - 1)))) (I.degree u) (I.degree u - 1)
 
 -- a node's records of edges, from those of one index and to those of the other
 abbrev pub passed : List ℕ → List ℕ → ℕ → ℕ → List Entry
 passed from to more u = received from u ++ sent to more u
 
 -- a node's part of each sweep, by its edges to lower and to higher nodes, and of a forward one by how many positions have a record
-abbrev pub forward_of : List ℕ → ℕ → List ℕ → List ℕ → ℕ → List Entry
-forward_of s n lower higher u = passed lower higher 1 u ++ to_labels u (range 0 (exclusive_at s n u))
+abbrev pub forward_of : Instance → List ℕ → List ℕ → ℕ → List Entry
+forward_of I lower higher u = passed lower higher 1 u ++ to_labels u (range 0 (exclusive_count I u))
 
 abbrev pub backward_by : List ℕ → List ℕ → ℕ → List Entry
 backward_by lower higher u = passed higher lower 0 u
@@ -109,19 +96,6 @@ spotted spots i = let s = get_or spots i (spot 0 0) in entry 4 s.node s.position
 abbrev pub label_by : List ℕ → List Spot → ℕ → List Entry
 label_by places spots l = map (spotted spots) (held places l)
 
--- ---- what a function is handed of a sheet that was read and not refused
-
-pub record Swept (s : List ℕ) (c : Counts) : Type 0 where
-  pub readable : refusal_of s ≡ 0
-  pub nodes : c.nodes ≡ (instance_of s).node_count
-  pub labels : c.labels ≡ (instance_of s).label_count
-  pub edges : c.edges ≡ (instance_of s).edge_count
-  pub positions : c.positions ≡ node_cells (instance_of s)
-
--- the counts, of what reading answered
-abbrev pub counts_of : Layout → Counts
-counts_of l = record { nodes = l.nodes; labels = l.labels; edges = l.edges; positions = l.positions }
-
--- the index of its edges by their lower (0) or by their higher (1) ends, every second byte
-abbrev pub edges_by : List ℕ → Counts → ℕ → List ℕ
-edges_by s c end = index_of (take (2 * c.edges) (drop (c.nodes + 5 * c.positions + end) s)) 2
+-- the index of a sheet's edges by their lower (0) or by their higher (1) ends, every second byte
+abbrev pub edges_by : List ℕ → ℕ → List ℕ
+edges_by s end = index_of (take (2 * (instance_of s).edge_count) (drop (ends_at s + end) s)) 2

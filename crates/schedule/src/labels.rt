@@ -1,37 +1,35 @@
 // Records between a node and its labels: kinds 3 and 4.
 ghost use Rattle.std.specs.Prelude.{◌≡◌, ◌+◌, ◌≤◌, ◌<◌, length};
 ghost use Rattle.integers.specs.Places.{range, offset};
-ghost use Rattle.instance.specs.Bytes.{byte};
+ghost use Rattle.instance.specs.Sheet.{instance_of};
 ghost use Rattle.index.specs.Index.{many};
 ghost use Rattle.schedule.specs.Sweep.{each, falling, to_labels};
-ghost use Rattle.schedule.specs.Writing.{Wrote, Room, Rows, Marked, Spots, Nodes, exclusive_count, exclusive_at, label_by};
+ghost use Rattle.schedule.specs.Writing.{Wrote, Room, Rows, Marked, Spots, exclusive_count, label_by};
 
-use crate::row::row;
 use crate::writer::{Kind, Writer};
-use messages::exclusive;
+use index::Index;
+use messages::{Sheet, exclusive};
 
-// How many positions of a node have another label than 255, which only its last can be. `past` is the place after its labels.
-pub(crate) fn exclusive_positions(sheet: &[u8], past: usize, degree: usize) -> usize
-    requires { (1 ≤ degree) × (1 ≤ past) × (past ≤ length sheet.now) }
-    ensures { result ≡ exclusive_count sheet.now past degree }
+// How many positions of node `u` have another label than 255, which only its last can be.
+pub(crate) fn exclusive_positions(sheet: &Sheet, u: usize) -> usize
+    requires { u < sheet.now.nodes }
+    ensures { (result ≡ exclusive_count (instance_of sheet.now.bytes.now) u) × (result ≤ (instance_of sheet.now.bytes.now).degree u) × (result ≤ 16) }
 {
-    if exclusive(usize::from(sheet[past - 1])) {
+    let degree = sheet.degree(u);
+    let last = sheet.starts[u] + (degree - 1);
+    if exclusive(sheet.label(last)) {
         return degree;
     }
     degree - 1
 }
 
-// The same of all nodes together, whose labels follow their degrees.
-pub(crate) fn exclusive_places(sheet: &[u8], n: usize) -> usize
-    requires { Nodes sheet.now n }
-    ensures { result ≡ offset (exclusive_at sheet.now n) n }
+// The same of all nodes together.
+pub(crate) fn exclusive_places(sheet: &Sheet) -> usize
+    ensures { result ≡ offset (exclusive_count (instance_of sheet.now.bytes.now)) sheet.now.nodes }
 {
     let mut sum = 0;
-    let mut past = n;
-    for degree in &sheet[..n] {
-        let degree = usize::from(*degree);
-        past += degree;
-        sum += exclusive_positions(sheet, past, degree);
+    for u in 0..sheet.nodes {
+        sum += exclusive_positions(sheet, u);
     }
     sum
 }
@@ -67,40 +65,36 @@ fn mark(spots: &mut [Spot; 1024], at: usize, degree: usize, u: usize)
     }
 }
 
-// The places of the first nodes of a sheet, which begins with their degrees.
-pub(crate) fn spots(sheet: &[u8], n: usize) -> [Spot; 1024]
-    requires { (n ≤ length sheet.now) × (n ≤ 64) × (offset (byte sheet.now) n ≤ 1024) }
-    ensures { Spots (byte sheet.now) n result }
+// The places of a sheet.
+pub(crate) fn spots(sheet: &Sheet) -> [Spot; 1024]
+    ensures { Spots (instance_of sheet.now.bytes.now).degree sheet.now.nodes result }
 {
     let nowhere = Spot {
         node: 0,
         position: 0,
     };
     let mut spots = [nowhere; 1024];
-    let mut at = 0;
-    for (u, degree) in sheet[..n].iter().enumerate() {
-        let degree = usize::from(*degree);
-        mark(&mut spots, at, degree, u);
-        at += degree;
+    for u in 0..sheet.nodes {
+        mark(&mut spots, sheet.starts[u], sheet.degree(u), u);
     }
     spots
 }
 
 // Kind 4 with share 1 at each place that has the label.
-fn from_label(places: &[u16; 4160], spots: &[Spot; 1024], label: usize, w: &mut Writer)
+fn from_label(places: &Index, spots: &[Spot; 1024], label: usize, w: &mut Writer)
     requires rows { Rows places.now 1024 }
     requires label_bound { label < 64 }
     requires room { Room w.old (many places.now label) }
     ensures { Wrote w.old (label_by places.now spots.now label) w.new }
 {
-    for place in row(places, label) {
+    for place in places.row(label) {
         let spot = spots[usize::from(*place)];
         w.put(Kind::FromLabel, spot.node, u16::from(spot.position), 1);
     }
 }
 
 // The same for each label, falling.
-pub(crate) fn from_labels(places: &[u16; 4160], spots: &[Spot; 1024], labels: usize, w: &mut Writer)
+pub(crate) fn from_labels(places: &Index, spots: &[Spot; 1024], labels: usize, w: &mut Writer)
     requires rows { Rows places.now 1024 }
     requires labels_bound { labels ≤ 64 }
     requires room { Room w.old (length (each (label_by places.now spots.now) (falling labels))) }

@@ -5,7 +5,6 @@
 
 mod edges;
 mod labels;
-mod row;
 mod sweep;
 mod writer;
 

@@ -14,7 +14,7 @@ unfolding from_edges
 put-requires c =
     let i = c.loop-edge.edge-index in
     room_left c.loop-edge.invariant 1 c.requires.room
-    (omega (arith, length-mapped (λ e. entry 2 c.args.u e 1) c.row-edge-items.result.now i (omega arith), row_long c.args.edges.now c.args.u c.row-edge-items.ensures))
+    (omega (arith, length-mapped (λ e. entry 2 c.args.u e 1) c.row-edge-items.result.now i (omega arith), row_long c.args.edges.now c.args.u c.row-edge-items.ensures.things))
 
 pub loop-edge-preserved : goal.loop-edge-preserved
 unfolding from_edges

@@ -14,13 +14,13 @@ unfolding to_edges
 loop-j-init c = wrote_none c.args.w.now
 
 pub overflow_cast-share : goal.overflow_cast-share
-overflow_cast-share c = omega (arith, row_long c.args.edges.now c.args.u c.row-row.ensures, c.requires.u_bound)
+overflow_cast-share c = omega (arith, c.row-row.ensures.few, c.requires.u_bound)
 
 pub put-requires : goal.put-requires
 put-requires c =
     let row = c.row-row.result.now in
     room_left c.loop-j.invariant 1 c.requires.room
-    (omega (arith, length-shared c.args.u (length row + c.args.more) row c.loop-j.j (omega arith), row_long c.args.edges.now c.args.u c.row-row.ensures))
+    (omega (arith, length-shared c.args.u (length row + c.args.more) row c.loop-j.j (omega arith), row_long c.args.edges.now c.args.u c.row-row.ensures.things))
 
 pub loop-j-preserved : goal.loop-j-preserved
 loop-j-preserved c =
@@ -32,4 +32,4 @@ pub returns : goal.returns
 returns c =
     let row = c.row-row.result.now in
     wrote_as c.loop-j.invariant
-    (ap₂ (λ (q : ℕ). to_edges c.args.u (q + c.args.more)) (row_long c.args.edges.now c.args.u c.row-row.ensures) (take_all c.loop-j.j row (omega arith) ∙ c.row-row.ensures))
+    (ap₂ (λ (q : ℕ). to_edges c.args.u (q + c.args.more)) (row_long c.args.edges.now c.args.u c.row-row.ensures.things) (take_all c.loop-j.j row (omega arith) ∙ c.row-row.ensures.things))

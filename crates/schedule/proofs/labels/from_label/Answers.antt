@@ -15,12 +15,12 @@ loop-place-init c = wrote_none c.args.w.now
 
 pub bounds-spots-from : goal.bounds-spots-from
 bounds-spots-from c =
-    omega (arith, row_inside c.args.label c.requires.rows c.row-place-items.ensures c.requires.label_bound c.loop-place.place-index (omega arith))
+    omega (arith, row_inside c.args.label c.requires.rows c.row-place-items.ensures.things c.requires.label_bound c.loop-place.place-index (omega arith))
 
 pub put-requires : goal.put-requires
 put-requires c =
     room_left c.loop-place.invariant 1 c.requires.room
-    (omega (arith, length-mapped (spotted c.args.spots.now) c.row-place-items.result.now c.loop-place.place-index (omega arith), row_long c.args.places.now c.args.label c.row-place-items.ensures))
+    (omega (arith, length-mapped (spotted c.args.spots.now) c.row-place-items.result.now c.loop-place.place-index (omega arith), row_long c.args.places.now c.args.label c.row-place-items.ensures.things))
 
 pub loop-place-preserved : goal.loop-place-preserved
 loop-place-preserved c =

@@ -1,47 +1,31 @@
 -- `spots` meets its contract: one node after another.
-use mathlib.Core.Path.{◌≡◌, sym, ◌∙◌}
-use mathlib.Core.List.{List}
-use Prim.Native.Nat.{ℕ, ◌+◌, ◌<◌, ◌≤◌}
-use native.Mathlib.Omega.{arith}
-use Rattle.integers.specs.Places.{offset}
-use Rattle.integers.proofs.Totals.{offset_le, offset_more, offset_none}
-use Rattle.instance.specs.Bytes.{byte}
-use Rattle.schedule.proofs.NodeTurns.{degree_is}
+use Rattle.std.proofs.Common.{ℕ, get_or, subst, arith}
+use Rattle.instance.specs.Instance.{first}
+use Rattle.instance.specs.Sheet.{instance_of}
+use Rattle.instance.proofs.Sheets.{start_is, row_here, nodes_few, positions_few}
+use Rattle.schedule.specs.Writing.{Marked}
 use Rattle.schedule.proofs.SpotLaws.{spots_none, spots_more}
 use Rattle.schedule.proofs.labels.spots.Goals as goal
-use Rattle.schedule.proofs.labels.spots.Goals.{After-from-degree}
-
--- a node's degree
-module _ (p : After-from-degree) where
-  abbrev s : List ℕ
-  s = p.args.sheet.now
-
-  abbrev u : ℕ
-  u = p.loop-u.u
-
-  degree : (u < p.args.n) × (p.from-degree.result ≡ byte s u)
-  degree = degree_is s p.requires.0 p.loop-u-test.true p.from-degree.ensures
-
-  inside : p.loop-u.at + p.from-degree.result ≤ 1024
-  inside = omega (arith, p.loop-u.invariant.0, degree.1, offset_le (byte s) u p.args.n degree.0, p.requires)
 
 pub loop-u-init : goal.loop-u-init
-loop-u-init c = let f = byte c.args.sheet.now in (sym (offset_none f), spots_none f)
+loop-u-init c = spots_none (instance_of c.args.sheet.now.bytes.now).degree
+
+pub offset_bounds-sheet-u : goal.offset_bounds-sheet-u
+offset_bounds-sheet-u c = omega (arith, c.loop-u-test.true, nodes_few c.args.sheet.now)
+
+pub bounds-sheet-u : goal.bounds-sheet-u
+bounds-sheet-u c = omega (arith, c.loop-u-test.true, nodes_few c.args.sheet.now)
 
 pub mark-requires : goal.mark-requires
 mark-requires c =
-    let p = (goal.at.mark-requires c).After-from-degree in
-    (c.loop-u.invariant.1.size, inside p, omega arith, omega (arith, (degree p).0, c.requires))
-
-pub overflow_add-at : goal.overflow_add-at
-overflow_add-at c = omega (arith, inside (goal.at.overflow_add-at c).After-from-degree)
+    let x = c.args.sheet.now in
+    let h = c.loop-u-test.true in
+    let d = c.degree.ensures in
+    (c.loop-u.invariant.size, omega (arith, start_is x h, d.0, row_here x h, positions_few x), omega (arith, d.2), omega (arith, h, nodes_few x))
 
 pub loop-u-preserved : goal.loop-u-preserved
+unfolding first
 loop-u-preserved c =
-    let p = (goal.at.loop-u-preserved c).After-from-degree in
-    let l = c.loop-u in
-    let f = byte (s p) in
-    let d = (degree p).1 in (
-      (let e : l.at + c.from-degree.result ≡ offset f l.u + f l.u = omega (arith, l.invariant.0, d) in e) ∙ sym (offset_more f l.u),
-      spots_more l.invariant.1 l.invariant.0 (rw d at c.mark.ensures),
-    )
+    let x = c.args.sheet.now in
+    let u = c.loop-u.u in
+    spots_more c.loop-u.invariant (start_is x c.loop-u-test.true) (subst (λ (k : ℕ). Marked c.loop-u.spots (get_or x.starts u 0) u k c.mark.new.spots) c.degree.ensures.0 c.mark.ensures)

@@ -1,49 +1,57 @@
 -- `backward_labels` meets its contract: the labels' lists by the places that have them.
-use mathlib.Core.Path.{◌≡◌, ap}
-use Prim.Native.Nat.{◌+◌, ◌-◌}
-use native.Mathlib.Omega.{arith}
-use lib.ListN.{length}
-use Rattle.instance.specs.Instance.{Instance, node_cells}
+use Rattle.std.proofs.Common.{◌≡◌, ◌+◌, ◌-◌, length, sym, ap, subst, arith}
+use Rattle.instance.specs.declared.sheet.Sheet.{Sheet}
+use Rattle.instance.specs.Instance.{Instance, first, node_cells}
 use Rattle.instance.specs.Sheet.{instance_of}
+use Rattle.instance.proofs.Indexes.{labels_indexed}
+use Rattle.instance.proofs.Sheets.{whole, nodes_is, labels_few}
 use Rattle.index.specs.Index.{Indexed}
 use Rattle.schedule.specs.Sweep.{each, falling, label_at}
 use Rattle.schedule.specs.Writing.{label_by}
 use Rattle.schedule.proofs.WritingLaws.{room_for, wrote_as}
-use Rattle.schedule.proofs.IndexedSheet.{sizes, nodes_few_lem, node_bytes, label_bytes, labels-64, places_few, places_indexed, place_rows, label_lists}
+use Rattle.schedule.proofs.IndexedSheet.{place_rows, label_lists}
 use Rattle.schedule.proofs.sweep.backward_labels.Goals as goal
 use Rattle.schedule.proofs.sweep.backward_labels.Goals.{After-spots}
 
+-- the labels stand between the degrees and the node prices
+count : (x : Sheet) → x.prices ≡ x.nodes + node_cells (instance_of x.bytes.now)
+unfolding first instance_of
+count x = omega (arith, x.placed.0, nodes_is x)
+
 -- the places by label
-module _ (x : After-spots) where
+module _ (p : After-spots) where
+  abbrev x : Sheet
+  x = p.args.sheet.now
+
   abbrev I : Instance
-  I = instance_of x.args.sheet.now
+  I = instance_of x.bytes.now
 
-  placed : Indexed I.label (node_cells I) x.index_by-places.result
+  placed : Indexed I.label (node_cells I) p.of-places.result
   placed =
-      let a = x.args.counts in
-      let e : a.nodes + a.positions - a.nodes ≡ a.positions = omega arith in
-      places_indexed x.requires.swept e x.index_by-places.ensures
+      let e : x.prices - x.nodes ≡ node_cells I = omega (arith, count x) in
+      subst (Indexed I.label (node_cells I)) (sym p.of-places.ensures) (labels_indexed x.bytes.now x.readable (nodes_is x) e)
 
-  lists : each (label_by x.index_by-places.result x.spots.result) (falling x.args.counts.labels) ≡ each (label_at I) (falling I.label_count)
-  lists = label_lists x.requires.swept placed x.spots.ensures
+  lists : each (label_by p.of-places.result p.spots.result) (falling x.labels) ≡ each (label_at I) (falling I.label_count)
+  lists = label_lists x placed p.spots.ensures
 
-pub overflow_add-prices : goal.overflow_add-prices
-overflow_add-prices c = omega (arith, sizes c.requires.swept)
+pub slice_bounds-of-count : goal.slice_bounds-of-count
+slice_bounds-of-count c = omega (arith, count c.args.sheet.now)
 
-pub slice_bounds-index_by-end : goal.slice_bounds-index_by-end
-slice_bounds-index_by-end c = omega (arith, label_bytes c.requires.swept)
+pub slice_bounds-of-start : goal.slice_bounds-of-start
+slice_bounds-of-start c = omega (arith, count c.args.sheet.now)
 
-pub spots-requires : goal.spots-requires
-spots-requires c = let w = c.requires.swept in (node_bytes w, nodes_few_lem w, places_few w)
+pub slice_bounds-of-end : goal.slice_bounds-of-end
+slice_bounds-of-end c = let x = c.args.sheet.now in omega (arith, count x, nodes_is x, (whole x).whole)
 
 pub from_labels-requires-clause-rows : goal.from_labels-requires-clause-rows
-from_labels-requires-clause-rows c = place_rows c.requires.swept (placed (goal.at.from_labels-requires-clause-rows c).After-spots) c.spots.ensures
+from_labels-requires-clause-rows c =
+    let p = (goal.at.from_labels-requires-clause-rows c).After-spots in place_rows (x p) (placed p) c.spots.ensures
 
 pub from_labels-requires-clause-labels_bound : goal.from_labels-requires-clause-labels_bound
-from_labels-requires-clause-labels_bound c = labels-64 c.requires.swept
+from_labels-requires-clause-labels_bound c = labels_few c.args.sheet.now
 
 pub from_labels-requires-clause-room : goal.from_labels-requires-clause-room
-from_labels-requires-clause-room c = room_for _ c.requires.room (omega (arith, ap length (lists (goal.at.from_labels-requires-clause-room c).After-spots)))
+from_labels-requires-clause-room c = room_for _ c.requires (omega (arith, ap length (lists (goal.at.from_labels-requires-clause-room c).After-spots)))
 
 pub returns : goal.returns
 returns c = wrote_as c.from_labels.ensures (lists (goal.at.returns c).After-spots)

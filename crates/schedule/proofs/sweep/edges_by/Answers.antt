@@ -1,36 +1,35 @@
 -- `edges_by` meets its contract: every second byte of the ends.
-use mathlib.Core.Path.{◌≡◌, ap, ◌∙◌}
-use Prim.Native.Nat.{ℕ, ◌+◌, ◌-◌, ◌*◌}
-use native.Mathlib.Omega.{arith}
-use lib.ListN.{take, drop}
+use Rattle.std.proofs.Common.{◌≡◌, ℕ, ◌+◌, ◌-◌, ◌*◌, ◌≤◌, take, drop, length, ap, ap₂, ◌∙◌, arith}
+use Rattle.instance.specs.declared.sheet.Sheet.{Sheet}
+use Rattle.instance.specs.Instance.{first}
+use Rattle.instance.specs.Sheet.{instance_of, ends_at}
+use Rattle.instance.proofs.Sheets.{whole, edges_is, edges_few, ends_few}
 use Rattle.index.specs.Index.{index_of}
-use Rattle.schedule.proofs.IndexedSheet.{sizes, end_bytes}
 use Rattle.schedule.proofs.NumberLaws.{end_few}
 use Rattle.schedule.specs.Writing.{end_place}
 use Rattle.schedule.proofs.sweep.edges_by.Goals as goal
 
-pub overflow_mul-from : goal.overflow_mul-from
-overflow_mul-from c = omega (arith, sizes c.requires)
+inside : (x : Sheet) → x.ends + 1 + 2 * x.edges ≤ length x.bytes.now
+unfolding first instance_of
+inside x = omega (arith, x.placed.1, edges_is x, (whole x).whole)
 
 pub overflow_add-from : goal.overflow_add-from
-overflow_add-from c = omega (arith, sizes c.requires)
-
-pub overflow_add-from-2 : goal.overflow_add-from-2
-overflow_add-from-2 c = let e = end_few c.args.end in omega (arith, sizes c.requires)
+overflow_add-from c = let e = end_few c.args.end in omega (arith, ends_few c.args.sheet.now)
 
 pub overflow_mul-past : goal.overflow_mul-past
-overflow_mul-past c = omega (arith, sizes c.requires)
+overflow_mul-past c = omega (arith, edges_few c.args.sheet.now)
 
 pub overflow_add-past : goal.overflow_add-past
-overflow_add-past c = let e = end_few c.args.end in omega (arith, sizes c.requires)
+overflow_add-past c = let e = end_few c.args.end in let x = c.args.sheet.now in omega (arith, ends_few x, edges_few x)
 
-pub slice_bounds-index_by-end : goal.slice_bounds-index_by-end
-slice_bounds-index_by-end c = let e = end_few c.args.end in omega (arith, end_bytes c.requires)
+pub slice_bounds-of-end : goal.slice_bounds-of-end
+slice_bounds-of-end c = let e = end_few c.args.end in omega (arith, inside c.args.sheet.now)
 
 pub returns : goal.returns
 returns c =
     let a = c.args in
+    let x = a.sheet.now in
     let e = (end_few a.end).0 in
-    let from = a.counts.nodes + 5 * a.counts.positions in
-    let past : (p : ℕ) → p + 2 * a.counts.edges - p ≡ 2 * a.counts.edges = λ p. omega arith in
-    c.index_by.ensures ∙ ap (λ (p : ℕ). index_of (take (from + p + 2 * a.counts.edges - (from + p)) (drop (from + p) a.sheet.now)) 2) e ∙ ap (λ (m : ℕ). index_of (take m (drop (from + end_place a.end) a.sheet.now)) 2) (past (from + end_place a.end))
+    let past : (p : ℕ) → p + 2 * x.edges - p ≡ 2 * (instance_of x.bytes.now).edge_count = λ p. omega (arith, edges_is x) in
+    c.of.ensures ∙ ap₂ (λ (k p : ℕ). index_of (take (k + p + 2 * x.edges - (k + p)) (drop (k + p) x.bytes.now)) 2) x.placed.1 e
+    ∙ ap (λ (m : ℕ). index_of (take m (drop (ends_at x.bytes.now + end_place a.end) x.bytes.now)) 2) (past (ends_at x.bytes.now + end_place a.end))

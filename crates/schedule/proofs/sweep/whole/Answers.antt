@@ -11,9 +11,10 @@ use Rattle.index.specs.Index.{Indexed}
 use Rattle.schedule.specs.declared.sweep.Direction.TheVariants.{Forward, Backward}
 use Rattle.schedule.specs.declared.writer.Writer.{Writer}
 use Rattle.schedule.specs.Sweep.{Entry, each, falling, label_at, backward_at, rounding, sweep}
-use Rattle.schedule.specs.Writing.{Rows, Wrote, direction_number, forward_of, backward_by}
+use Rattle.schedule.specs.Writing.{Wrote, direction_number, forward_of, backward_by}
+use Rattle.instance.proofs.Sheets.{nodes_few}
 use Rattle.schedule.proofs.WritingLaws.{wrote_append, wrote_as, room_left, room_for}
-use Rattle.schedule.proofs.IndexedSheet.{nodes_few_lem, nodes_inside, higher_indexed, lower_rows, higher_rows, forward_nodes, backward_nodes}
+use Rattle.schedule.proofs.IndexedSheet.{higher_indexed, forward_nodes, backward_nodes}
 use Rattle.schedule.proofs.Written.{body, sweep_is}
 use Rattle.schedule.proofs.sweep.whole.Goals as goal
 use Rattle.schedule.proofs.sweep.whole.Goals.{After-edges_by-higher, in-Forward, in-Backward}
@@ -21,16 +22,13 @@ use Rattle.schedule.proofs.sweep.whole.Goals.{After-edges_by-higher, in-Forward,
 -- the edges by their ends
 module _ (p : After-edges_by-higher) where
   abbrev I : Instance
-  I = instance_of p.args.sheet.now
+  I = instance_of p.args.sheet.now.bytes.now
 
   lower : Indexed I.high I.edge_count p.args.lower.now
   lower = p.requires.indexed
 
   higher : Indexed I.low I.edge_count p.edges_by-higher.result
-  higher = higher_indexed p.requires.swept p.edges_by-higher.ensures
-
-  rows : Rows p.args.lower.now 256 × Rows p.edges_by-higher.result 256
-  rows = (lower_rows p.requires.swept lower higher, higher_rows p.requires.swept lower higher)
+  higher = higher_indexed p.args.sheet.now p.edges_by-higher.ensures
 
   size : length (sweep I (direction_number p.args.direction)) ≡ length (body I p.args.direction) + 1
   unfolding rounding
@@ -46,44 +44,35 @@ module _ (p : After-edges_by-higher) where
   long : p.args.direction ≡ Backward → length (body I p.args.direction) ≡ length labels + length nodes
   long e = ap (λ d. length (body I d)) e ∙ length-append labels nodes
 
-pub forward-requires-clause-rows : goal.forward-requires-clause-rows
-forward-requires-clause-rows c = rows (goal.at.forward-requires-clause-rows c).After-edges_by-higher
-
-pub forward-requires-clause-nodes : goal.forward-requires-clause-nodes
-forward-requires-clause-nodes c = nodes_inside c.requires.swept
-
-pub forward-requires-clause-room : goal.forward-requires-clause-room
-forward-requires-clause-room c =
-    let p = (goal.at.forward-requires-clause-room c).After-edges_by-higher in
-    let e = forward_nodes c.requires.swept (lower p) (higher p) in
+pub forward-requires : goal.forward-requires
+forward-requires c =
+    let p = (goal.at.forward-requires c).After-edges_by-higher in
+    let e = forward_nodes c.args.sheet.now (lower p) (higher p) in
     room_for _ c.requires.room (omega (arith, size p, ap length e, ap (λ d. length (body (I p) d)) c.in-Forward.is))
 
-pub backward_labels-requires-clause-room : goal.backward_labels-requires-clause-room
-backward_labels-requires-clause-room c =
-    let p = (goal.at.backward_labels-requires-clause-room c).After-edges_by-higher in
+pub backward_labels-requires : goal.backward_labels-requires
+backward_labels-requires c =
+    let p = (goal.at.backward_labels-requires c).After-edges_by-higher in
     room_for _ c.requires.room (omega (arith, size p, long p c.in-Backward.is))
 
-pub backward_nodes-requires-clause-rows : goal.backward_nodes-requires-clause-rows
-backward_nodes-requires-clause-rows c = rows (goal.at.backward_nodes-requires-clause-rows c).After-edges_by-higher
-
 pub backward_nodes-requires-clause-n_bound : goal.backward_nodes-requires-clause-n_bound
-backward_nodes-requires-clause-n_bound c = nodes_few_lem c.requires.swept
+backward_nodes-requires-clause-n_bound c = nodes_few c.args.sheet.now
 
 pub backward_nodes-requires-clause-room : goal.backward_nodes-requires-clause-room
 backward_nodes-requires-clause-room c =
     let p = (goal.at.backward_nodes-requires-clause-room c).After-edges_by-higher in
-    let e = backward_nodes c.requires.swept (lower p) (higher p) in
+    let e = backward_nodes c.args.sheet.now (lower p) (higher p) in
     room_left c.backward_labels.ensures _ c.requires.room (omega (arith, size p, ap length e, long p c.in-Backward.is))
 
 -- all but the rounding is written
 filled_forward : (p : After-edges_by-higher) {v : Writer} → p.args.direction ≡ Forward
-    → Wrote p.args.w.now (each (forward_of p.args.sheet.now p.args.counts.nodes p.args.lower.now p.edges_by-higher.result) (range 0 p.args.counts.nodes)) v
+    → Wrote p.args.w.now (each (forward_of (I p) p.args.lower.now p.edges_by-higher.result) (range 0 p.args.sheet.now.nodes)) v
     → Wrote p.args.w.now (body (I p) p.args.direction) v
-filled_forward p e x = wrote_as x (forward_nodes p.requires.swept (lower p) (higher p) ∙ sym (ap (body (I p)) e))
+filled_forward p e x = wrote_as x (forward_nodes p.args.sheet.now (lower p) (higher p) ∙ sym (ap (body (I p)) e))
 
 filled_backward : (p : After-edges_by-higher) {u v : Writer} → p.args.direction ≡ Backward → Wrote p.args.w.now (labels p) u
-    → Wrote u (each (backward_by p.args.lower.now p.edges_by-higher.result) (falling p.args.counts.nodes)) v → Wrote p.args.w.now (body (I p) p.args.direction) v
-filled_backward p e x y = wrote_as (wrote_append x (wrote_as y (backward_nodes p.requires.swept (lower p) (higher p)))) (sym (ap (body (I p)) e))
+    → Wrote u (each (backward_by p.args.lower.now p.edges_by-higher.result) (falling p.args.sheet.now.nodes)) v → Wrote p.args.w.now (body (I p) p.args.direction) v
+filled_backward p e x y = wrote_as (wrote_append x (wrote_as y (backward_nodes p.args.sheet.now (lower p) (higher p)))) (sym (ap (body (I p)) e))
 
 pub put-requires : goal.put-requires
 put-requires c =

@@ -1,86 +1,79 @@
 -- `write_sweep` meets its contract: refused, nothing is altered; else the buffer holds the sweep.
-use mathlib.Core.Path.{◌≡◌, refl, sym, ap, ◌∙◌}
-use mathlib.Core.Bool.{true}
-use mathlib.Core.List.{List}
-use Prim.Native.Nat.{ℕ}
-use native.Mathlib.Omega.{arith}
-use lib.ListN.{length}
-use borrow.Author.Rules.{rules}
-use Rattle.instance.specs.Sheet.{instance_of, refusal_of}
-use Rattle.instance.proofs.Readable.{readable}
-use Rattle.instance.proofs.LaidOut.{refusal_is}
+use Rattle.std.proofs.Common.{◌≡◌, ℕ, true, List, length, refl, sym, ap, ◌∙◌, arith, Bor, rules}
+use Rattle.std.proofs.lemmas.Result.{err_from_is_err_and}
+use Rattle.instance.specs.declared.sheet.Sheet.{Sheet}
+use Rattle.instance.specs.declared.refusal.Refusal.{Refusal}
+use Rattle.instance.specs.Refusal.{number, refused_in}
+use Rattle.instance.specs.Sheet.{instance_of}
+use Rattle.instance.proofs.Told.{numbered}
+use Rattle.instance.proofs.Sheets.{proper}
 use Rattle.schedule.specs.Sweep.{bytes, sweep, known, sweep_length}
-use Rattle.schedule.specs.Written.{written}
-use Rattle.schedule.specs.Writing.{Swept, direction_number}
+use Rattle.schedule.specs.Written.{written, sweep_of}
+use Rattle.schedule.specs.Writing.{direction_number}
 use Rattle.schedule.proofs.Lengths.{sweep-length}
 use Rattle.schedule.proofs.Written.{direction_known, direction_unknown, unread, unknown, unfit, swept}
 use Rattle.schedule.proofs.WritingLaws.{length-bytes, wrote_all}
-use Rattle.schedule.proofs.IndexedSheet.{handed, lower_indexed}
+use Rattle.schedule.proofs.IndexedSheet.{lower_indexed}
 use Rattle.schedule.proofs.sweep.write_sweep.Goals as goal
-use Rattle.schedule.proofs.sweep.write_sweep.Goals.{After-counts_of-counts, Else-layout-ne-NONE}
+use Rattle.schedule.proofs.sweep.write_sweep.Goals.{In_ok-sheet, In-Some}
 
--- past the first test: the sheet is readable
-module _ (p : Else-layout-ne-NONE) where
+-- the sheet was read, by the bytes that were given
+module _ (p : In_ok-sheet) where
+  abbrev x : Sheet
+  x = p.in_ok-sheet.sheet
+
   abbrev s : List ℕ
-  s = p.args.sheet.now
+  s = x.bytes.now
 
-  unrefused : refusal_of s ≡ 0
-  unrefused = sym (refusal_is s p.read-layout.ensures) ∙ p.if-layout-ne-NONE.false
+  over : (direction : ℕ) (out : List ℕ) → sweep_of s direction out ≡ sweep_of p.args.sheet.now direction out
+  over direction out = ap (λ (b : Bor (List ℕ)). sweep_of b.now direction out) p.in_ok-sheet.ensures.same
 
   long : (d : ℕ) → length (bytes (sweep (instance_of s) d)) ≡ sweep_length (instance_of s)
-  long d = sweep-length (instance_of s) (readable s unrefused).proper d
+  long d = sweep-length (instance_of s) (proper x) d
 
--- past the second: the direction is known, and the counts are the sheet's
-module _ (k : After-counts_of-counts) where
-  abbrev read : Else-layout-ne-NONE
-  read = (goal.at.After-counts_of-counts k).Else-layout-ne-NONE
-
-  counted : Swept (s read) k.counts_of-counts.result
-  counted = handed (s read) k.read-layout.ensures k.if-layout-ne-NONE.false k.counts_of-counts.ensures
+-- the direction is known
+module _ (k : In-Some) where
+  abbrev read : In_ok-sheet
+  read = (goal.at.In-Some k).In_ok-sheet
 
   named : (known k.args.direction ≡ true) × (k.args.direction ≡ direction_number k.in-Some.direction)
   named = direction_known k.args.direction k.in-Some.ensures
 
-pub returns-then-layout-ne-NONE : goal.returns-then-layout-ne-NONE
-returns-then-layout-ne-NONE c =
+pub returns-in_err-sheet : goal.returns-in_err-sheet
+returns-in_err-sheet c =
     let a = c.args in
-    let n = refusal_is a.sheet.now c.read-layout.ensures in
-    ap (written a.out.now) n ∙ unread a.sheet.now a.direction a.out.now (λ z. c.if-layout-ne-NONE.true (n ∙ z))
+    let (y, r, e) = err_from_is_err_and c.from_residual.result c.from_residual.ensures.1 in
+    let n = c.in_err-sheet.ensures.refusal in
+    ap (λ q. written a.out.now (refused_in q)) r ∙ ap (λ (q : Refusal). written a.out.now (number q)) e ∙ ap (written a.out.now) n
+    ∙ unread a.sheet.now a.direction a.out.now (λ z. omega (arith, n, numbered c.in_err-sheet.field-0.0))
 
 pub returns-in_default : goal.returns-in_default
 returns-in_default c =
-    let p = (goal.at.returns-in_default c).Else-layout-ne-NONE in
-    unknown (s p) c.args.direction c.args.out.now (unrefused p) (direction_unknown c.args.direction (sym c.in_default.is ∙ c.direction_of.ensures))
-
-pub length_of-requires : goal.length_of-requires
-length_of-requires c = counted c
+    let p = (goal.at.returns-in_default c).In_ok-sheet in
+    unknown (s p) c.args.direction c.args.out.now (x p).readable (direction_unknown c.args.direction (sym c.in_default.is ∙ c.direction_of.ensures))
+    ∙ over p c.args.direction c.args.out.now
 
 pub returns-then-out-length_of : goal.returns-then-out-length_of
 returns-then-out-length_of c =
-    let k = (goal.at.returns-then-out-length_of c).After-counts_of-counts in let p = read k in
-    unfit (s p) c.args.direction c.args.out.now (unrefused p) (named k).0 (λ z. c.if-out-length_of.true (z ∙ sym c.length_of.ensures))
-
-pub whole-requires-clause-swept : goal.whole-requires-clause-swept
-whole-requires-clause-swept c = counted (goal.at.whole-requires-clause-swept c).After-counts_of-counts
+    let k = (goal.at.returns-then-out-length_of c).In-Some in let p = read k in
+    unfit (s p) c.args.direction c.args.out.now (x p).readable (named k).0 (λ z. c.if-out-length_of.true (z ∙ sym c.length_of.ensures))
+    ∙ over p c.args.direction c.args.out.now
 
 pub whole-requires-clause-indexed : goal.whole-requires-clause-indexed
-whole-requires-clause-indexed c =
-    lower_indexed (counted (goal.at.whole-requires-clause-indexed c).After-counts_of-counts) c.edges_by-lower.ensures
-
-pub edges_by-lower-requires : goal.edges_by-lower-requires
-edges_by-lower-requires c = counted (goal.at.edges_by-lower-requires c).After-counts_of-counts
+whole-requires-clause-indexed c = lower_indexed c.in_ok-sheet.sheet c.edges_by-lower.ensures
 
 pub whole-requires-clause-room : goal.whole-requires-clause-room
 whole-requires-clause-room c =
-    let k = (goal.at.whole-requires-clause-room c).After-counts_of-counts in let p = read k in
+    let k = (goal.at.whole-requires-clause-room c).In-Some in let p = read k in
     let d = direction_number c.in-Some.direction in
     record { fits = omega (arith, c.if-out-length_of.false, c.length_of.ensures, long p d, length-bytes (sweep (instance_of (s p)) d)) }
 
 pub returns : goal.returns
 returns c =
-    let k = (goal.at.returns c).After-counts_of-counts in let p = read k in
+    let k = (goal.at.returns c).In-Some in let p = read k in
     let fit = c.if-out-length_of.false ∙ c.length_of.ensures in
     let d = direction_number c.in-Some.direction in
     let e : c.whole.new.w.out.now ≡ bytes (sweep (instance_of (s p)) c.args.direction) =
     wrote_all c.whole.ensures refl (fit ∙ sym (long p d)) ∙ ap (λ (n : ℕ). bytes (sweep (instance_of (s p)) n)) (sym (named k).1) in
-    ap (λ (l : List ℕ). written l 0) (search rules ∙ e) ∙ swept (s p) c.args.direction c.args.out.now (unrefused p) (named k).0 fit
+    ap (λ (l : List ℕ). written l 0) (search rules ∙ e) ∙ swept (s p) c.args.direction c.args.out.now (x p).readable (named k).0 fit
+    ∙ over p c.args.direction c.args.out.now
