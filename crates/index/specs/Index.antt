@@ -2,7 +2,7 @@
 use Rattle.std.specs.Prelude.{◌≡◌, Bool, true, false, cond, ◌&&◌, List, ◌∷◌, map, ℕ, ◌+◌, ◌*◌, ◌/◌, ◌%◌, ◌≤◌, ◌<◌, ltb, eqb, length, get_or, set, take}
 use Rattle.integers.specs.Places.{range, select, tabulate}
 
--- ---- what `index_by` answers
+-- ---- the entries of an index
 
 -- the rows, one after another: how many things, those things, and zeros
 unfoldable pub in_rows : (ℕ → List ℕ) → List ℕ

@@ -1,8 +1,6 @@
 // An index of things by a key below 64: for each key a row of 65 numbers, how many things have the key and then those things, rising.
 #![tactic(auto)]
 
-mod numbers;
 mod table;
 
-pub use numbers::{number, wide};
-pub use table::{Index, index_by, index_into};
+pub use table::Index;

@@ -75,20 +75,11 @@ fn enter(index: &mut [u16; 4160], key: usize, thing: usize)
 }
 
 // The entries of the index of things of which the i-th has as its key the byte at `stride` times i, whatever the array held.
-pub fn index_into(bytes: &[u8], stride: usize, index: &mut [u16; 4160])
+fn index_into(bytes: &[u8], stride: usize, index: &mut [u16; 4160])
     ensures { index.new ≡ index_of bytes.now stride }
 {
     *index = [0u16; 4160];
     for thing in 0..count(bytes.len(), stride) {
         enter(index, usize::from(bytes[stride * thing]), thing);
     }
-}
-
-// The same in an array of its own.
-pub fn index_by(bytes: &[u8], stride: usize) -> [u16; 4160]
-    ensures { result ≡ index_of bytes.now stride }
-{
-    let mut index = [0u16; 4160];
-    index_into(bytes, stride, &mut index);
-    index
 }
