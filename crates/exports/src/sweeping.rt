@@ -2,6 +2,7 @@
 ghost use Rattle.std.specs.Prelude.{◌≡◌};
 ghost use Rattle.schedule.specs.Written.{written, sweep_of};
 
+use crate::storing::code;
 use schedule::write_sweep;
 
 // Writes the forward (0) or the backward (1) sweep into `out`, of exactly its length; answers the refusal.
@@ -9,5 +10,5 @@ use schedule::write_sweep;
 pub extern "C" fn cirbaldu_sweep(sheet: &[u8], direction: u8, out: &mut [u8]) -> u8
     ensures { written out.new result ≡ sweep_of sheet.now direction out.old }
 {
-    write_sweep(sheet, direction, out)
+    code(write_sweep(sheet, direction, out))
 }

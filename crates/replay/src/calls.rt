@@ -119,8 +119,8 @@ fn sweep(sheet: &[u8], reader: &mut Reader) -> Option<bool> {
     let answers = reader.answers();
     let mut out = [0xA5u8; 512];
     let lent = out.get_mut(..length)?;
-    let refusal = schedule::write_sweep(sheet, u8::try_from(direction).ok()?, lent);
-    Some(answers.are(&[u64::from(refusal)], Hash::new().bytes(lent)))
+    let written = schedule::write_sweep(sheet, u8::try_from(direction).ok()?, lent);
+    Some(answers.are(&[number(written.err())], Hash::new().bytes(lent)))
 }
 
 // Place: the refusal, and the lent bytes, which were A5 before, as the output. Where no matching exists it is left open

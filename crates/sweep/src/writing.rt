@@ -1,8 +1,9 @@
 // The direction that an argument names, and the sweep at the start of a buffer.
-ghost use Rattle.std.specs.Prelude.{◌≡◌, ◌≢◌, [], length, MatchResult};
+ghost use Rattle.std.specs.Prelude.{◌≡◌, [], length, MatchResult};
+ghost use Rattle.instance.specs.Refusal.{number};
 ghost use Rattle.sweep.specs.Swept.{direction_of, Sweeps};
 
-use instance::refusal::NONE;
+use instance::Refusal;
 use schedule::{sweep_length, write_sweep};
 
 // A text that is neither "0" nor "1" names none: 2, which a sweep refuses once the sheet passes.
@@ -22,15 +23,11 @@ pub(crate) fn sweep_at_start<'a>(
     sheet: &[u8],
     direction: u8,
     out: &'a mut [u8],
-) -> Result<&'a [u8], u8>
+) -> Result<&'a [u8], Refusal>
     requires { length out.old ≡ 7_685 }
-    ensures { MatchResult result (λ list. Sweeps sheet.now direction list.now 0 (length list.now)) (λ refusal. (refusal ≢ 0) × Sweeps sheet.now direction [] refusal 0) }
+    ensures { MatchResult result (λ list. Sweeps sheet.now direction list.now 0 (length list.now)) (λ refusal. Sweeps sheet.now direction [] (number refusal) 0) }
 {
     let list = &mut out[..sweep_length(sheet)];
-    let refusal = write_sweep(sheet, direction, list);
-    if refusal == NONE {
-        Ok(list)
-    } else {
-        Err(refusal)
-    }
+    write_sweep(sheet, direction, list)?;
+    Ok(list)
 }

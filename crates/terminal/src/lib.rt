@@ -4,6 +4,7 @@
 
 ghost use Rattle.std.specs.Prelude.{ℕ, ◌≤◌, length};
 
+use messages::Refusal;
 use std::fs::{self, Files};
 use std::io::{self, Print, Read, Write};
 
@@ -50,9 +51,9 @@ pub fn print<R: Print>(rt: &R, sheet: &[u8], records: &[u8]) -> io::Result<()> {
     )
 }
 
-// Prints the line of a refusal, by its number.
-pub fn print_refusal<W: Write>(to: &mut W, number: u8) -> io::Result<()> {
-    write_text(to, |text| console::number_text(number, text))
+// Prints the line of a refusal.
+pub fn print_refusal<W: Write>(to: &mut W, refusal: Refusal) -> io::Result<()> {
+    write_text(to, |text| console::refusal_text(refusal, text))
 }
 
 // The whole program: the sheet of a file, and the records of a reader.
