@@ -4,5 +4,5 @@
 use std::io;
 
 fn main(rt: HostRuntime) -> io::Result<()> {
-    terminal::run(&rt, "sheet.msh", &mut rt.stdin())
+    terminal::run(&rt, b"sheet.msh", &mut rt.stdin())
 }

@@ -115,16 +115,9 @@ pub fn compose(answer: Answer, report: Result<Report, Refusal>, out: &mut [u8]) 
     text.len
 }
 
-// Puts the line of a refusal at the start of out, and answers its length; in a buffer of fewer than 256 bytes nothing,
-// and 0.
-pub fn refusal_text(refusal: Refusal, out: &mut [u8]) -> usize
-    ensures { outputs out.new result ≡ output_of (refused_line (number refusal)) out.old }
-{
-    number_text(refusal.number(), out)
-}
-
-// The same of a refusal's number.
-pub fn number_text(number: u8, out: &mut [u8]) -> usize
+// Puts the line of a refusal, by its number, at the start of out, and answers its length; in a buffer of fewer than 256
+// bytes nothing, and 0.
+pub fn refusal_text(number: u8, out: &mut [u8]) -> usize
     ensures { outputs out.new result ≡ output_of (refused_line number) out.old }
 {
     if out.len() < ROOM {

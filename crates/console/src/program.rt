@@ -27,10 +27,10 @@ fn answer_in(
     ensures { outputs out.new result ≡ output_of (printed sheet.now records.now) out.old }
 {
     if let Err(refusal) = open(sheet, nodes, labels, edges, incumbent) {
-        return refusal_text(refusal, out);
+        return refusal_text(refusal.number(), out);
     }
     if MOST_BYTES < records.len() {
-        return refusal_text(Refusal::PartialRecord, out);
+        return refusal_text(Refusal::PartialRecord.number(), out);
     }
     let ran = run(sheet, records, nodes, labels, edges, incumbent);
     let told = report(sheet, nodes, labels, edges, incumbent);
@@ -63,6 +63,6 @@ pub fn answer(sheet: &[u8], records: &[u8], out: &mut [u8]) -> usize
 {
     match Sheet::read(sheet) {
         Ok(sheet) => answer_of(&sheet, records, out),
-        Err(refusal) => refusal_text(refusal, out),
+        Err(refusal) => refusal_text(refusal.number(), out),
     }
 }

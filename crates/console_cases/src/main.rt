@@ -109,8 +109,8 @@ fn heading<R: Print>(rt: &R, name: &str) -> io::Result<()> {
 // The program, with its records from a file; without one where it is missing.
 fn run_files<R: Files + Print>(rt: &R, sheet: &str, records: &str) -> io::Result<()> {
     match fs::open(rt, records) {
-        Ok(mut records) => terminal::run(rt, sheet, &mut records),
-        Err(_) => terminal::run(rt, sheet, &mut io::empty()),
+        Ok(mut records) => terminal::run(rt, sheet.as_bytes(), &mut records),
+        Err(_) => terminal::run(rt, sheet.as_bytes(), &mut io::empty()),
     }
 }
 

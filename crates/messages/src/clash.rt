@@ -2,7 +2,6 @@
 ghost use Rattle.std.specs.Prelude.{◌≡◌};
 ghost use Rattle.messages.specs.Clash.{Rising, Skips, bit_at, Masks};
 
-use index::wide;
 use instance::usable;
 
 // One bit of 64 for a label.
@@ -30,7 +29,7 @@ fn place_of(labels: &[u8], label: u8) -> Option<usize>
 {
     // Kept: `position` is the same in one line, and the report then takes a tenth longer.
     for (p, other) in labels.iter().enumerate() {
-        if !usable(wide(label), wide(*other)) {
+        if !usable(usize::from(label), usize::from(*other)) {
             return Some(p);
         }
     }

@@ -29,14 +29,14 @@ fn write(rt: &HostRuntime, sheet: &[u8], direction: u8) -> io::Result<()> {
     let mut out = [0u8; 7_685];
     match sweep_at_start(sheet, direction, &mut out) {
         Ok(list) => rt.stdout().write_all(list),
-        Err(refusal) => terminal::print_refusal(&mut rt.stderr(), refusal),
+        Err(refusal) => terminal::print_refusal(&mut rt.stderr(), refusal.number()),
     }
 }
 
 fn main(rt: HostRuntime) -> io::Result<()> {
     let mut sheet = console::sheet_buffer();
     let mut text = [0u8; 2];
-    let sheet = terminal::read_file(&rt, "sheet.msh", &mut sheet);
+    let sheet = terminal::read_file(&rt, b"sheet.msh", &mut sheet);
     let direction = direction_of(argument(&rt, &mut text));
     write(&rt, sheet, direction)
 }

@@ -4,7 +4,6 @@
 
 ghost use Rattle.std.specs.Prelude.{ℕ, ◌≤◌, length};
 
-use messages::Refusal;
 use std::fs::{self, Files};
 use std::io::{self, Print, Read, Write};
 
@@ -24,10 +23,13 @@ pub fn read_full<'a, R: Read>(reader: &mut R, buffer: &'a mut [u8]) -> &'a [u8]
 }
 
 // Reads a file to the buffer's end, and answers its bytes. One that is missing or cannot be read is empty.
-pub fn read_file<'a, R: Files>(rt: &R, name: &str, buffer: &'a mut [u8]) -> &'a [u8]
+pub fn read_file<'a, R: Files>(rt: &R, name: &[u8], buffer: &'a mut [u8]) -> &'a [u8]
     ensures { length result.now ≤ length buffer.old }
 {
-    match fs::open(rt, name) {
+    let Ok(path) = str::from_utf8(name) else {
+        return &[];
+    };
+    match fs::open(rt, path) {
         Ok(mut file) => read_full(&mut file, buffer),
         Err(_) => &[],
     }
@@ -51,13 +53,13 @@ pub fn print<R: Print>(rt: &R, sheet: &[u8], records: &[u8]) -> io::Result<()> {
     )
 }
 
-// Prints the line of a refusal.
-pub fn print_refusal<W: Write>(to: &mut W, refusal: Refusal) -> io::Result<()> {
-    write_text(to, |text| console::refusal_text(refusal, text))
+// Prints the line of a refusal, by its number.
+pub fn print_refusal<W: Write>(to: &mut W, number: u8) -> io::Result<()> {
+    write_text(to, |text| console::refusal_text(number, text))
 }
 
 // The whole program: the sheet of a file, and the records of a reader.
-pub fn run<R: Files + Print, I: Read>(rt: &R, sheet_name: &str, records: &mut I) -> io::Result<()> {
+pub fn run<R: Files + Print, I: Read>(rt: &R, sheet_name: &[u8], records: &mut I) -> io::Result<()> {
     let mut sheet = console::sheet_buffer();
     let mut list = console::record_buffer();
     let sheet = read_file(rt, sheet_name, &mut sheet);

@@ -14,7 +14,7 @@ module _ (c : After-usable) where
   q = (goal.at.In-loop-p i).Start
 
   told : usable q.args.label (get_or q.args.labels.now i.loop-p.p 0) ≡ c.usable.result
-  told = sym (c.usable.ensures ∙ ap₂ usable c.wide.ensures.0 c.wide-in-loop-p.ensures.0)
+  told = sym (c.usable.ensures ∙ ap₂ usable c.from.ensures c.from-in-loop-p.ensures)
 
 pub loop-p-preserved : goal.loop-p-preserved
 loop-p-preserved c =
