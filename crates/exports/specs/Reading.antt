@@ -1,5 +1,5 @@
 -- The numbers of a reading, and the stretch of the sheet that holds the prices of an edge.
-use Rattle.std.specs.Prelude.{cond, List, [], ◌∷◌, ◌++◌, ℕ, ltb, length, get_or}
+use Rattle.std.specs.Prelude.{List, [], ◌∷◌, ◌++◌, ℕ, length}
 use Rattle.instance.specs.Layout.{Layout}
 use Rattle.instance.specs.Sheet.{refusal_of}
 use Rattle.instance.specs.Layout.{layout_of, edge_refusal_of, edge_place_of, edge_prices_of}

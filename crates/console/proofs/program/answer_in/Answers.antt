@@ -50,7 +50,7 @@ returns-in-Err c =
 pub returns-then-records-gt-MOST_BYTES : goal.returns-then-records-gt-MOST_BYTES
 returns-then-records-gt-MOST_BYTES c =
     let q = (goal.at.returns-then-records-gt-MOST_BYTES c).In_default in
-    out_as c.args.out.now (printed_long c.args.sheet.now c.args.records.now (readable q) (omega (arith, c.if-records-gt-MOST_BYTES.true))) (c.refusal_text-then-records-gt-MOST_BYTES.ensures ∙ ap (λ (k : ℕ). output_of (refused_line k) c.args.out.now) c.number.ensures)
+    out_as c.args.out.now (printed_long c.args.sheet.now c.args.records.now (readable q) (omega (arith, c.if-records-gt-MOST_BYTES.true))) (c.refusal_text-then-records-gt-MOST_BYTES.ensures ∙ ap (λ (k : ℕ). output_of (refused_line k) c.args.out.now) c.number-then-records-gt-MOST_BYTES.ensures)
 
 pub returns : goal.returns
 returns c =
