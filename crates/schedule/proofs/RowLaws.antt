@@ -1,13 +1,11 @@
 -- The rows of an index: how long, and what stands in them.
 -- Assumes nothing.
-use mathlib.Core.Path.{◌≡◌, sym, ap, ◌∙◌}
-use mathlib.Core.List.{List, map}
-use Prim.Native.Nat.{ℕ, ◌+◌, ◌-◌, ◌*◌, ◌≤◌, ◌<◌}
+use mathlib.Core.Path.{◌≡◌, ap, ◌∙◌}
+use mathlib.Core.List.{List}
+use Prim.Native.Nat.{ℕ, ◌+◌, ◌*◌, ◌<◌}
 use native.Mathlib.Omega.{arith}
-use lib.ListN.{length, get_or, take, drop}
-use Rattle.integers.specs.Places.{range}
+use lib.ListN.{length, get_or}
 use Rattle.integers.proofs.Places.{get_or-range}
-use Rattle.integers.proofs.Ranges.{range-part}
 use Rattle.index.specs.Index.{many, held}
 use Rattle.index.proofs.Indexed.{length-held}
 use Rattle.schedule.specs.Writing.{Rows}
