@@ -59,7 +59,11 @@ pub fn print_refusal<W: Write>(to: &mut W, number: u8) -> io::Result<()> {
 }
 
 // The whole program: the sheet of a file, and the records of a reader.
-pub fn run<R: Files + Print, I: Read>(rt: &R, sheet_name: &[u8], records: &mut I) -> io::Result<()> {
+pub fn run<R: Files + Print, I: Read>(
+    rt: &R,
+    sheet_name: &[u8],
+    records: &mut I,
+) -> io::Result<()> {
     let mut sheet = console::sheet_buffer();
     let mut list = console::record_buffer();
     let sheet = read_file(rt, sheet_name, &mut sheet);
