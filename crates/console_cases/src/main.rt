@@ -114,13 +114,6 @@ fn run_files<R: Files + Print>(rt: &R, sheet: &str, records: &str) -> io::Result
     }
 }
 
-fn show_text<R: Print>(rt: &R, answer: Answer, report: Result<Report, Refusal>) -> io::Result<()> {
-    terminal::write_text(
-        &mut io::writer(rt),
-        |text| console::compose(answer, report, text),
-    )
-}
-
 // Numbers that no run has, and a buffer that is too short.
 fn extreme_cases<R: Print>(rt: &R) -> io::Result<()> {
     let ran = Answer {
@@ -129,9 +122,9 @@ fn extreme_cases<R: Print>(rt: &R) -> io::Result<()> {
         refusal: Some(Refusal::CostOverflow),
     };
     heading(rt, "the longest text")?;
-    show_text(rt, ran, Ok(Report::Kept(i64::MIN, i64::MAX, -10)))?;
+    terminal::print_answer(rt, ran, Ok(Report::Kept(i64::MIN, i64::MAX, -10)))?;
     heading(rt, "a report refused")?;
-    show_text(rt, ran, Err(Refusal::BoundAboveCost))?;
+    terminal::print_answer(rt, ran, Err(Refusal::BoundAboveCost))?;
     heading(rt, "a buffer of 255 bytes")?;
     let mut short = [0u8; 255];
     let count = console::compose(ran, Ok(Report::Bound(0)), &mut short);

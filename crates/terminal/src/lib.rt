@@ -4,6 +4,7 @@
 
 ghost use Rattle.std.specs.Prelude.{ℕ, ◌≤◌, length};
 
+use messages::{Answer, Refusal, Report};
 use std::fs::{self, Files};
 use std::io::{self, Print, Read, Write};
 
@@ -36,7 +37,7 @@ pub fn read_file<'a, R: Files>(rt: &R, name: &[u8], buffer: &'a mut [u8]) -> &'a
 }
 
 // Writes the text that a function puts at the start of a buffer, of which it answers the length.
-pub fn write_text<W: Write, F: FnOnce(&mut [u8]) -> usize>(to: &mut W, compose: F) -> io::Result<()>
+fn write_text<W: Write, F: FnOnce(&mut [u8]) -> usize>(to: &mut W, compose: F) -> io::Result<()>
     requires callable { F.IsAlwaysCallable compose }
     requires within { (before after : _) (count : ℕ) → F.post compose before count after → count ≤ length after.now }
 {
@@ -50,6 +51,18 @@ pub fn print<R: Print>(rt: &R, sheet: &[u8], records: &[u8]) -> io::Result<()> {
     write_text(
         &mut io::writer(rt),
         |text| console::answer(sheet, records, text),
+    )
+}
+
+// Prints the text of a run and of the report after it.
+pub fn print_answer<R: Print>(
+    rt: &R,
+    answer: Answer,
+    report: Result<Report, Refusal>,
+) -> io::Result<()> {
+    write_text(
+        &mut io::writer(rt),
+        |text| console::compose(answer, report, text),
     )
 }
 
