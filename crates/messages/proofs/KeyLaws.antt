@@ -214,7 +214,7 @@ module _ (q : Sheet) where
   abbrev J : Instance
   J = instance_of q.bytes.now
 
-  pub row_room : {edges : List ℤ} → EdgeFits q.bytes.now edges → (x : List ℕ) {u : ℕ} → Placed q.bytes.now x u → {e : ℕ} → e < q.edges → J.high e ≡ u
+  pub row_room : {edges : List ℤ} → EdgeFits q.bytes.now edges → (x : List ℕ) {u : ℕ} → Placed (instance_of q.bytes.now) x u → {e : ℕ} → e < q.edges → J.high e ≡ u
       → table J e + J.degree (J.high e) * position x (J.low e) + J.degree (J.high e) ≤ length edges
   unfolding table_size
   row_room f x placed {e} h z =

@@ -7,11 +7,11 @@ use Rattle.integers.proofs.Places.{by-test}
 use Rattle.rules.specs.Messages as rules
 use Rattle.rules.specs.Run as runs
 use Rattle.rules.specs.Run.{kind_of}
-use Rattle.messages.specs.declared.records.Way.{Way}
+use Rattle.messages.specs.declared.records.Flow.{Flow}
 use Rattle.messages.specs.declared.records.Kind.{Kind}
-use Rattle.messages.specs.declared.records.Kind.TheVariants.{Message, Rounding}
+use Rattle.messages.specs.declared.records.Kind.TheVariants.{Edge, Label, Rounding}
 use Rattle.messages.specs.declared.records.Record.{Record}
-use Rattle.messages.specs.Records.{way_of, way_as, kind_as, head_by}
+use Rattle.messages.specs.Records.{edge_message, label_message, kind_as, head_by}
 
 -- a number that is none of 1 to 5 is no kind's
 pub kind_past : (n : ℕ) → (1 ≤ n → n ≤ 5 → ⊥) → kind_of n ≡ runs.unknown
@@ -25,21 +25,28 @@ kind_past n h =
 
 -- ---- from the code's kind back to the rules'
 
-way_back : (m : rules.Message) → way_of (way_as m) ≡ m
-way_back rules.node_to_edge = refl
-way_back rules.edge_to_node = refl
-way_back rules.node_to_label = refl
-way_back rules.label_to_node = refl
+-- the way in a kind
+abbrev flow_in : Flow → Option Kind → Flow
+flow_in d None = d
+flow_in d (Some (Edge f)) = f
+flow_in d (Some (Label f)) = f
+flow_in d (Some Rounding) = d
 
--- the message in a kind
-abbrev way_in : Way → Option Kind → Way
-way_in d (Some (Message w)) = w
-way_in d o = d
+pub kind_edge : (k : runs.Kind) (f : Flow) → Some (Edge f) ≡ kind_as k → k ≡ runs.message (edge_message f)
+kind_edge (runs.message rules.node_to_edge) f e = ap (λ g. runs.message (edge_message g)) (sym (ap (flow_in f) e))
+kind_edge (runs.message rules.edge_to_node) f e = ap (λ g. runs.message (edge_message g)) (sym (ap (flow_in f) e))
+kind_edge (runs.message rules.node_to_label) f e = cc e
+kind_edge (runs.message rules.label_to_node) f e = cc e
+kind_edge runs.rounding f e = cc e
+kind_edge runs.unknown f e = cc e
 
-pub kind_message : (k : runs.Kind) (w : Way) → Some (Message w) ≡ kind_as k → k ≡ runs.message (way_of w)
-kind_message (runs.message m) w e = ap runs.message (sym (way_back m)) ∙ ap (λ v. runs.message (way_of v)) (sym (ap (way_in w) e))
-kind_message runs.rounding w e = cc e
-kind_message runs.unknown w e = cc e
+pub kind_label : (k : runs.Kind) (f : Flow) → Some (Label f) ≡ kind_as k → k ≡ runs.message (label_message f)
+kind_label (runs.message rules.node_to_edge) f e = cc e
+kind_label (runs.message rules.edge_to_node) f e = cc e
+kind_label (runs.message rules.node_to_label) f e = ap (λ g. runs.message (label_message g)) (sym (ap (flow_in f) e))
+kind_label (runs.message rules.label_to_node) f e = ap (λ g. runs.message (label_message g)) (sym (ap (flow_in f) e))
+kind_label runs.rounding f e = cc e
+kind_label runs.unknown f e = cc e
 
 pub kind_rounding : (k : runs.Kind) → Some Rounding ≡ kind_as k → k ≡ runs.rounding
 kind_rounding (runs.message m) e = cc e

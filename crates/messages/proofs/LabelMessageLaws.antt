@@ -12,12 +12,10 @@ use Rattle.integers.proofs.Places.{if-true, if-false, and_both}
 use Rattle.integers.proofs.Share.{abs_le, amount_toward}
 use Rattle.integers.proofs.Ranges.{others-part}
 use Rattle.integers.proofs.Rows.{get_d_part, within_map}
-use Rattle.instance.specs.Instance.{Instance}
-use Rattle.instance.specs.Sheet.{instance_of}
+use Rattle.instance.specs.Instance.{Instance, first, node_cells}
 use Rattle.instance.proofs.LaidOut.{row_inside}
 use Rattle.rules.specs.Places.{node_places, label_places}
 use Rattle.rules.specs.Calls.{cost_limit}
-use Rattle.messages.specs.Lent.{NodeFits}
 use Rattle.messages.specs.LabelMessage.{label_rival, label_move, label_moved, node_amount, label_amount, PlaceAsked}
 use Rattle.messages.proofs.RowLaws.{least_of_within, amount_none}
 
@@ -28,22 +26,18 @@ amount_fits x (y ∷ ys) r h g =
     omega (arith, abs_le (amount_toward x (y ∷ ys) r (omega arith)), least_of_within cost_limit (y ∷ ys) g, sub x (least_of (y ∷ ys)), abs x, abs (least_of (y ∷ ys)), abs (x -ℤ least_of (y ∷ ys)))
 
 -- a record's place in the costs of all places
-module _ {s : List ℕ} {at u k share : ℕ} (q : PlaceAsked s at u k share) {l : List ℤ} (f : NodeFits s l) where
-  abbrev I : Instance
-  I = instance_of s
+module _ {I : Instance} {u k share : ℕ} (q : PlaceAsked I u k share) (l : List ℤ) (size : length l ≡ node_cells I) where
+  pub row_in : first I u + I.degree u ≤ length l
+  row_in = omega (arith, size, row_inside I q.node)
 
-  pub row_in : at + I.degree u ≤ length l
-  row_in = omega (arith, f.size, q.begins, row_inside (instance_of s) q.node)
-
-  pub place_in : at + k < length l
+  pub place_in : first I u + k < length l
   place_in = omega (arith, row_in, q.position)
 
-  pub node_given : amount (get_or (part l at (I.degree u)) k (pos 0)) (without (part l at (I.degree u)) k) share ≡ node_amount I l u (at + k) share
+  pub node_given : amount (get_or (part l (first I u) (I.degree u)) k (pos 0)) (without (part l (first I u) (I.degree u)) k) share ≡ node_amount I l u (first I u + k) share
   unfolding node_places
   node_given =
-      ap₂ (λ (x : ℤ) (rivals : List ℤ). amount x rivals share) (get_d_part l at (I.degree u) k (pos 0) q.position)
-      (sym (others-part l (pos 0) at (I.degree u) k row_in)
-      ∙ ap (λ (a : ℕ). map (λ j. get_or l j (pos 0)) (others (at + k) (range a (I.degree u)))) q.begins)
+      ap₂ (λ (x : ℤ) (rivals : List ℤ). amount x rivals share) (get_d_part l (first I u) (I.degree u) k (pos 0) q.position)
+      (sym (others-part l (pos 0) (first I u) (I.degree u) k row_in))
 
 module _ (I : Instance) (l : List ℤ) (h : Within cost_limit l) where
   -- the costs at some places

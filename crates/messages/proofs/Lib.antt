@@ -26,6 +26,7 @@ pub mod KindLaws
 pub mod RecordLaws
 pub mod RoundRecordLaws
 pub mod TurnLaws
+pub mod StateLaws
 pub mod RunLaws
 pub mod Numbers
 pub mod Trace

@@ -4,7 +4,7 @@ use Rattle.std.proofs.Common.{◌≡◌, ℕ, ◌+◌, ◌<◌, ◌≤◌, Bool,
 use borrow.Author.Tests.{lt-leb}
 use Rattle.integers.proofs.Places.{if-true, if-false}
 use Rattle.instance.specs.Instance.{Instance, exclusive, first}
-use Rattle.instance.specs.Sheet.{instance_of, refusal_of}
+use Rattle.instance.specs.Sheet.{instance_of}
 use Rattle.rules.specs.Run.{legal_share, legal_edge, legal_position}
 use Rattle.rules.proofs.Run.{legal_edge_is, legal_position_is}
 use Rattle.messages.specs.Lent.{NodeFits, EdgeFits}
@@ -95,7 +95,7 @@ edge_legal {s} f g u e r h =
     let (a, b, c, d) = legal_edge_is (instance_of s) u e r h in
     record { node_costs = f; edge_costs = g; node = b; edge = c; touches = d; shares = a }
 
-pub place_asked : (s : List ℕ) → refusal_of s ≡ 0 → (at u k r : ℕ) → at ≡ first (instance_of s) u → legal_position (instance_of s) u k r ≡ true → PlaceAsked s at u k r
-place_asked s w at u k r e h =
-    let (a, b, c, d) = legal_position_is (instance_of s) u k r h in
-    record { readable = w; node = b; begins = e; position = c; exclusive = d; some = a }
+pub place_asked : (I : Instance) (u k r : ℕ) → legal_position I u k r ≡ true → PlaceAsked I u k r
+place_asked I u k r h =
+    let (a, b, c, d) = legal_position_is I u k r h in
+    record { node = b; position = c; exclusive = d; some = a }

@@ -93,7 +93,7 @@ pub record RoundTurn (s : List ℕ) (n : ℕ) (nodes edges : List ℤ) (x : List
   pub within : u ≤ n
   pub size : length x ≡ 64
   pub done : round_below (instance_of s) (costs_by nodes edges) u ≡ some (take u x)
-  pub placed : Placed s x u
+  pub placed : Placed (instance_of s) x u
   pub rest : (k : ℕ) → u ≤ k → get_or x k 0 ≡ 0
   pub labels : untaken ≡ tabulate 256 (unused (instance_of s) x u)
 

@@ -15,7 +15,7 @@ use Rattle.rules.specs.Messages.{node_to_edge, edge_to_node, node_to_label, labe
 use mathlib.Core.Option.{Option, none, some}
 use Rattle.rules.specs.Rounding.{round}
 use Rattle.rules.specs.Run.{Kind, message, rounding, unknown, Outcome, refused, done, rounded, checked, effect, legal_message, legal_edge, legal_position}
-use Rattle.rules.specs.Calls.{cost_limit, incumbent_ok}
+use Rattle.rules.specs.Calls.{cost_limit, incumbent_ok, lent_refusal}
 use Rattle.rules.proofs.Bridge.{moved_label, touched_label}
 use Rattle.rules.proofs.Run.{Done, Ranged, legal_edge_is, legal_position_is, effect_later, effect_range}
 use Rattle.rules.proofs.Calls.{is_matching_lem, incumbent_ok_lem, lengths_ok_lem}
@@ -24,10 +24,12 @@ use Rattle.messages.specs.Step.{Settled, settle, settled}
 use Rattle.messages.specs.LabelMessage.{Moved, label_move, label_moved, label_given}
 use Rattle.messages.specs.EdgeRecord.{EdgeMove, edge_move, edge_moved}
 use Rattle.messages.specs.RoundRecord.{IncumbentFits}
-use Rattle.messages.specs.Records.{label_taken, edge_taken}
+use Rattle.messages.specs.declared.records.Flow.{Flow}
+use Rattle.messages.specs.declared.records.Flow.TheVariants.{FromNode, ToNode}
+use Rattle.messages.specs.Records.{turned, edge_message, label_message, label_taken, edge_taken}
 use Rattle.messages.specs.Turn.{Good}
 use Rattle.rules.proofs.Opening.{lengths_are}
-use Rattle.messages.proofs.LentLaws.{LentWell, fit_of}
+use Rattle.messages.proofs.LentLaws.{LentWell, lent_good, lent_well, fit_of}
 use Rattle.messages.proofs.EdgeRecordLaws.{edge_settled, edge_settled_lem}
 
 -- ---- what was lent well is good
@@ -42,7 +44,7 @@ all_none (k ∷ x) (suc n) e h =
     let (a, b) = and_true (eqb 255 k) (every (eqb 255) x) h in
     ap₂ (λ (i : ℕ) (l : List ℕ). i ∷ l) (sym (eqb-true 255 k a)) (all_none x n (omega arith) b)
 
-pub good_of : (s : List ℕ) (limit : ℕ) (b : Buffers) → LentWell s limit b → Good s limit b
+good_of : (s : List ℕ) (limit : ℕ) (b : Buffers) → LentWell s limit b → Good s limit b
 unfolding incumbent_ok
 good_of s limit b w = record {
   readable = w.readable;
@@ -56,6 +58,9 @@ good_of s limit b w = record {
     rest : {p q : Bool} → (p || q) ≡ true → p ≡ false → q ≡ true
     rest {p} {q} h e = ap (λ (t : Bool). t || q) (sym e) ∙ h
 
+pub good_lent : (s : List ℕ) (limit : ℕ) (b : Buffers) → lent_refusal s limit b ≡ 0 → Good s limit b
+good_lent s limit b e = good_of s limit b (lent_well s limit b e)
+
 -- ---- what is good fits
 
 module _ {s : List ℕ} {limit : ℕ} {b : Buffers} (g : Good s limit b) where
@@ -68,20 +73,24 @@ module _ {s : List ℕ} {limit : ℕ} {b : Buffers} (g : Good s limit b) where
   pub fit : limit ≤ cost_limit → NodeFits s b.nodes × NodeFits s b.labels × EdgeFits s b.edges
   fit h = fit_of s limit b h (lengths_ok_lem I g.sound.sized) g.ranged
 
+  -- lent again it is not refused
+  pub not_refused : lent_refusal s limit b ≡ 0
+  not_refused = sym (lent_good s limit b g.readable (lengths_ok_lem I g.sound.sized) g.ranged (incumbent_ok_lem I g.sound))
+
   pub incumbent_fits : IncumbentFits s b.incumbent
   incumbent_fits = record { size = g.sound.sized.incumbent; ok = incumbent_ok_lem I g.sound }
 
-  -- a record that is done leaves what is good good
-  pub good_next : (kind : Kind) (u k r : ℕ) {b' : Buffers} {n : ℕ} → settle b' n 0 ≡ settled b (effect I limit b kind u k r) → Good s limit b'
-  good_next kind u k r {b'} {n} e = go (effect I limit b kind u k r) (effect_later I proper limit b kind u k r g.sound) (effect_range I proper limit b kind u k r g.ranged) e
+  -- a record leaves what is good good, done or refused
+  pub good_next : (kind : Kind) (u k r : ℕ) {b' : Buffers} {n number : ℕ} → settle b' n number ≡ settled b (effect I limit b kind u k r) → Good s limit b'
+  good_next kind u k r {b'} {n} {number} e = go (effect I limit b kind u k r) (effect_later I proper limit b kind u k r g.sound) (effect_range I proper limit b kind u k r g.ranged) e
     where
-      go : (o : Outcome) → Done I proper b o → Ranged I proper limit o → settle b' n 0 ≡ settled b o → Good s limit b'
-      go (refused number) d h e = subst (Good s limit) (sym (ap (λ (z : Settled). z.buffers) e)) g
+      go : (o : Outcome) → Done I proper b o → Ranged I proper limit o → settle b' n number ≡ settled b o → Good s limit b'
+      go (refused m) d h e = subst (Good s limit) (sym (ap (λ (z : Settled). z.buffers) e)) g
       go (done m k) d h e = subst (Good s limit) (sym (ap (λ (z : Settled). z.buffers) e)) (record { readable = g.readable; sound = d.0; ranged = h })
 
   -- ---- kinds 3 and 4
 
-  abbrev label_settled : Moved → Settled
+  abbrev pub label_settled : Moved → Settled
   label_settled m = settle (lent m.nodes m.labels b.edges b.incumbent) 0 m.refusal
 
   label_settled_lem : (i : ℕ) (p : ℤ) → i < node_cells I → settled b (checked I limit (shift (to_label i p) b)) ≡ label_settled (label_moved limit b.nodes b.labels i p)
@@ -115,10 +124,10 @@ module _ {s : List ℕ} {limit : ℕ} {b : Buffers} (g : Good s limit b) where
       edge_either (legal_edge I u e r) (checked I limit (shift (deltas I (costs_of b) (cond turned edge_to_node node_to_edge) u e r) b)) (edge_moved I b.nodes b.edges limit turned u e r)
       (λ t. let (x, y, z, w) = legal_edge_is I u e r t in edge_settled_lem I limit g.sound.sized g.ranged y z turned r)
 
-  pub edge_turn : (turned : Bool) (u e r : ℕ) → settled b (effect I limit b (message (cond turned edge_to_node node_to_edge)) u e r) ≡ edge_settled b (edge_taken I limit b.nodes b.edges turned u e r)
+  pub edge_turn : (flow : Flow) (u e r : ℕ) → settled b (effect I limit b (message (edge_message flow)) u e r) ≡ edge_settled b (edge_taken I limit b.nodes b.edges (turned flow) u e r)
   unfolding effect legal_message
-  edge_turn true u e r = edge_kind true u e r
-  edge_turn false u e r = edge_kind false u e r
+  edge_turn FromNode u e r = edge_kind false u e r
+  edge_turn ToNode u e r = edge_kind true u e r
 
   place_in : (u k r : ℕ) → legal_position I u k r ≡ true → first I u + k < node_cells I
   place_in u k r t = let (x, y, z, e) = legal_position_is I u k r t in omega (arith, row_inside I y)
@@ -135,10 +144,10 @@ module _ {s : List ℕ} {limit : ℕ} {b : Buffers} (g : Good s limit b) where
       moved true h = label_settled_lem (first I u + k) (label_given I b.nodes b.labels true u (first I u + k) r) h
       moved false h = label_settled_lem (first I u + k) (label_given I b.nodes b.labels false u (first I u + k) r) h
 
-  pub label_turn : (turned : Bool) (u k r : ℕ) → settled b (effect I limit b (message (cond turned label_to_node node_to_label)) u k r) ≡ label_settled (label_taken I limit b.nodes b.labels turned u k r)
+  pub label_turn : (flow : Flow) (u k r : ℕ) → settled b (effect I limit b (message (label_message flow)) u k r) ≡ label_settled (label_taken I limit b.nodes b.labels (turned flow) u k r)
   unfolding effect legal_message
-  label_turn true u k r = label_kind true u k r
-  label_turn false u k r = label_kind false u k r
+  label_turn FromNode u k r = label_kind false u k r
+  label_turn ToNode u k r = label_kind true u k r
 
   -- a record has at most one stuck rounding
   pub stuck_once : (kind : Kind) (u k r : ℕ) → (settled b (effect I limit b kind u k r)).stuck ≤ 1

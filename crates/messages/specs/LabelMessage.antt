@@ -45,11 +45,9 @@ label_amount I labels i r = amount (slice_index_or labels i (pos 0)) (pos 0 ∷ 
 abbrev pub label_given : Instance → List ℤ → List ℤ → Bool → ℕ → ℕ → ℕ → ℤ
 label_given I nodes labels turned u i r = cond turned (neg_ℤ (label_amount I labels i r)) (node_amount I nodes u i r)
 
--- a readable sheet, node u whose places begin at `at`, one of its positions, whose label is not 255, and a share
-pub record PlaceAsked (s : List ℕ) (at u k share : ℕ) : Type 0 where
-  pub readable : refusal_of s ≡ 0
-  pub node : u < (instance_of s).node_count
-  pub begins : at ≡ first (instance_of s) u
-  pub position : k < (instance_of s).degree u
-  pub exclusive : exclusive ((instance_of s).label (first (instance_of s) u + k)) ≡ true
+-- a node, one of its positions, whose label is not 255, and a share
+pub record PlaceAsked (I : Instance) (u k share : ℕ) : Type 0 where
+  pub node : u < I.node_count
+  pub position : k < I.degree u
+  pub exclusive : exclusive (I.label (first I u + k)) ≡ true
   pub some : 1 ≤ share

@@ -5,10 +5,14 @@ use Rattle.instance.specs.Instance.{node_cells, edge_cells}
 use Rattle.instance.specs.Sheet.{instance_of}
 use Rattle.rules.specs.Costs.{Buffers}
 use Rattle.rules.specs.Calls.{Opened, cost_limit}
+use Rattle.messages.specs.declared.lent.Lent.{Lent}
 
--- the four lent buffers
+-- the four lent buffers, by their contents and as they are lent
 abbrev pub lent : List ℤ → List ℤ → List ℤ → List ℕ → Buffers
 lent nodes labels edges incumbent = record { nodes = nodes; labels = labels; edges = edges; incumbent = incumbent }
+
+abbrev pub lent_of : Lent → Buffers
+lent_of l = lent l.nodes.now l.labels.now l.edges.now l.incumbent.now
 
 -- what an opening leaves and answers
 abbrev pub opens : Buffers → ℕ → Opened

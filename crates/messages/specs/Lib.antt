@@ -11,4 +11,5 @@ pub mod Answers
 pub mod EdgeRecord
 pub mod Records
 pub mod Step
+pub mod State
 pub mod Turn

@@ -1,32 +1,40 @@
 -- One record, kind by kind: refused with 12 where what it names does not exist, else what its kind leaves.
-use Rattle.std.specs.Prelude.{Option, Some, None, ℕ, ◌+◌, ◌*◌, Bool, cond, List, ℤ, slice_index}
+use Rattle.std.specs.Prelude.{Option, Some, None, ℕ, ◌+◌, ◌*◌, Bool, true, false, cond, List, ℤ, slice_index}
 use Rattle.instance.specs.Instance.{Instance, first}
 use Rattle.rules.specs.Messages as rules
 use Rattle.rules.specs.Run as runs
 use Rattle.rules.specs.Run.{kind_of, legal_position, legal_edge}
-use Rattle.messages.specs.declared.records.Way.{Way}
-use Rattle.messages.specs.declared.records.Way.TheVariants.{NodeToEdge, EdgeToNode, NodeToLabel, LabelToNode}
+use Rattle.messages.specs.declared.records.Flow.{Flow}
+use Rattle.messages.specs.declared.records.Flow.TheVariants.{FromNode, ToNode}
 use Rattle.messages.specs.declared.records.Kind.{Kind}
-use Rattle.messages.specs.declared.records.Kind.TheVariants.{Message, Rounding}
+use Rattle.messages.specs.declared.records.Kind.TheVariants.{Edge, Label, Rounding}
 use Rattle.messages.specs.declared.records.Record.{Record}
 use Rattle.messages.specs.LabelMessage.{Moved, label_move, label_moved, label_given}
 use Rattle.messages.specs.EdgeRecord.{EdgeMove, edge_move, edge_moved}
 
--- the rules' message, and the rules' kind as the code has it: none for one that does not exist
-abbrev pub way_of : Way → rules.Message
-way_of NodeToEdge = rules.node_to_edge
-way_of EdgeToNode = rules.edge_to_node
-way_of NodeToLabel = rules.node_to_label
-way_of LabelToNode = rules.label_to_node
+-- whether a message is turned round: to the node
+abbrev pub turned : Flow → Bool
+turned FromNode = false
+turned ToNode = true
 
-abbrev pub way_as : rules.Message → Way
-way_as rules.node_to_edge = NodeToEdge
-way_as rules.edge_to_node = EdgeToNode
-way_as rules.node_to_label = NodeToLabel
-way_as rules.label_to_node = LabelToNode
+-- the rules' messages, of an edge and of a label
+abbrev pub edge_message : Flow → rules.Message
+edge_message FromNode = rules.node_to_edge
+edge_message ToNode = rules.edge_to_node
+
+abbrev pub label_message : Flow → rules.Message
+label_message FromNode = rules.node_to_label
+label_message ToNode = rules.label_to_node
+
+-- the rules' kind as the code has it: none for one that does not exist
+abbrev pub message_as : rules.Message → Kind
+message_as rules.node_to_edge = Edge FromNode
+message_as rules.edge_to_node = Edge ToNode
+message_as rules.node_to_label = Label FromNode
+message_as rules.label_to_node = Label ToNode
 
 abbrev pub kind_as : runs.Kind → Option Kind
-kind_as (runs.message m) = Some (Message (way_as m))
+kind_as (runs.message m) = Some (message_as m)
 kind_as runs.rounding = Some Rounding
 kind_as runs.unknown = None
 

@@ -58,14 +58,9 @@ chosen_from I at keys untaken degree = or_none (best (λ k. get_or keys k (pos 0
 -- ---- what is asked
 
 -- each node below u has one of its positions
-abbrev pub Placed : List ℕ → List ℕ → ℕ → Type 0
-Placed s x u = (w : ℕ) → w < u → slice_index x w < (instance_of s).degree w
+abbrev pub Placed : Instance → List ℕ → ℕ → Type 0
+Placed I x u = (w : ℕ) → w < u → slice_index x w < I.degree w
 
 -- the index of the edges by their higher ends
 abbrev pub Lowers : List ℕ → List ℕ → Type 0
 Lowers s lowers = Indexed (instance_of s).high (instance_of s).edge_count lowers
-
--- lent costs that fit
-pub record RoundAsked (s : List ℕ) (nodes edges : List ℤ) : Type 0 where
-  pub node_costs : NodeFits s nodes
-  pub edge_costs : EdgeFits s edges

@@ -4,9 +4,6 @@ use Rattle.rules.specs.Costs.{Buffers}
 use Rattle.instance.specs.Instance.{Instance}
 use Rattle.rules.specs.Run as runs
 use Rattle.rules.specs.Run.{Outcome, refused, done, kind_of, effect}
-use Rattle.messages.specs.declared.records.Way.{Way}
-use Rattle.messages.specs.declared.records.Record.{Record}
-use Rattle.messages.specs.Records.{way_of}
 
 pub record Settled : Type 0 where
   pub buffers : Buffers
@@ -31,9 +28,6 @@ stuck_in (Err e) = 0
 abbrev pub settled_as : Instance → ℕ → Buffers → runs.Kind → ℕ → ℕ → ℕ → Settled
 settled_as I limit b kind u k r = settled b (effect I limit b kind u k r)
 
--- the same of a message, and of the record in five bytes
-abbrev pub messaged : Instance → ℕ → Buffers → Way → Record → Settled
-messaged I limit b way r = settled_as I limit b (runs.message (way_of way)) r.node r.index r.share
-
+-- the same of the record in five bytes
 abbrev pub settled_by : Instance → ℕ → Buffers → List ℕ → Settled
 settled_by I limit b l = settled_as I limit b (kind_of (slice_index l 0)) (slice_index l 1) (slice_index l 2 + 256 * slice_index l 3) (slice_index l 4)

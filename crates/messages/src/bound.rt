@@ -1,5 +1,5 @@
 // The bound: the sum of each node's least cost, each edge's least usable cell, and for each label the least of 0 and its label costs.
-ghost use Rattle.std.specs.Prelude.{◌≡◌, ◌*◌, ◌<◌, ◌≤◌, true, [], pos, slice_index_or, unsigned_abs};
+ghost use Rattle.std.specs.Prelude.{◌≡◌, ◌*◌, ◌<◌, ◌≤◌, true, pos, slice_index_or, unsigned_abs};
 ghost use Rattle.integers.specs.Sum.{Within};
 ghost use Rattle.integers.specs.Least.{least_of};
 ghost use Rattle.integers.specs.Places.{total};
@@ -7,25 +7,26 @@ ghost use Rattle.instance.specs.Sheet.{instance_of};
 ghost use Rattle.instance.specs.Instance.{node_cells, table_size};
 ghost use Rattle.rules.specs.Held.{bound_in};
 ghost use Rattle.rules.specs.Calls.{cost_limit};
-ghost use Rattle.messages.specs.Lent.{lent, Fits, NodeFits, EdgeFits};
+ghost use Rattle.messages.specs.Lent.{lent_of, Fits};
 ghost use Rattle.instance.specs.Described.{labels_of};
 ghost use Rattle.messages.specs.EdgeMessage.{usable_cells};
 ghost use Rattle.messages.specs.Bounds.{row_least, table_least, least_labels};
 
+use crate::checked::Checked;
 use crate::rows::{least_of, plus};
 use crate::usable::usable_least;
 use instance::Sheet;
 
 // The sum of each node's least cost.
-fn node_sum(sheet: &Sheet, nodes: &[i64]) -> i64
-    requires { NodeFits sheet.now.bytes.now nodes.now }
-    ensures { (result ≡ total sheet.now.nodes (row_least (instance_of sheet.now.bytes.now) nodes.now)) × (unsigned_abs result ≤ sheet.now.nodes * cost_limit) }
+fn node_sum(held: &Checked) -> i64
+    ensures { (result ≡ total held.now.sheet.now.nodes (row_least (instance_of held.now.sheet.now.bytes.now) held.now.lent.nodes.now)) × (unsigned_abs result ≤ held.now.sheet.now.nodes * cost_limit) }
 {
+    let sheet = held.sheet;
     let mut sum = 0;
     let mut at = 0;
     for u in 0..sheet.nodes {
         let to = at + sheet.degree(u);
-        sum = plus(sum, least_of(&nodes[at..to]));
+        sum = plus(sum, least_of(&held.lent.nodes[at..to]));
         at = to;
     }
     sum
@@ -43,28 +44,27 @@ fn cell_least(sheet: &Sheet, cells: &[i64], e: usize) -> i64
 }
 
 // The sum of each edge's least usable cell.
-fn edge_sum(sheet: &Sheet, edges: &[i64]) -> i64
-    requires { EdgeFits sheet.now.bytes.now edges.now }
-    ensures { (result ≡ total sheet.now.edges (table_least sheet.now.bytes.now edges.now)) × (unsigned_abs result ≤ sheet.now.edges * cost_limit) }
+fn edge_sum(held: &Checked) -> i64
+    ensures { (result ≡ total held.now.sheet.now.edges (table_least held.now.sheet.now.bytes.now held.now.lent.edges.now)) × (unsigned_abs result ≤ held.now.sheet.now.edges * cost_limit) }
 {
+    let sheet = held.sheet;
     let mut sum = 0;
     let mut at = 0;
     for e in 0..sheet.edges {
         let to = at + sheet.size(e);
-        sum = plus(sum, cell_least(sheet, &edges[at..to], e));
+        sum = plus(sum, cell_least(sheet, &held.lent.edges[at..to], e));
         at = to;
     }
     sum
 }
 
 // For each label the least of 0 and its label costs; for 255 too, which no sum takes in.
-fn label_leasts(sheet: &Sheet, labels: &[i64]) -> [i64; 256]
-    requires { NodeFits sheet.now.bytes.now labels.now }
-    ensures { result ≡ least_labels (instance_of sheet.now.bytes.now) labels.now (node_cells (instance_of sheet.now.bytes.now)) }
+fn label_leasts(held: &Checked) -> [i64; 256]
+    ensures { result ≡ least_labels (instance_of held.now.sheet.now.bytes.now) held.now.lent.labels.now (node_cells (instance_of held.now.sheet.now.bytes.now)) }
 {
     let mut least = [0i64; 256];
-    for (i, cost) in labels.iter().enumerate() {
-        let l = sheet.label(i);
+    for (i, cost) in held.lent.labels.iter().enumerate() {
+        let l = held.sheet.label(i);
         least[l] = least[l].min(*cost);
     }
     least
@@ -84,13 +84,12 @@ fn label_sum(least: &[i64; 256], count: usize) -> i64
 }
 
 // The bound of the lent costs.
-pub(crate) fn lower_bound(sheet: &Sheet, nodes: &[i64], labels: &[i64], edges: &[i64]) -> i64
-    requires { NodeFits sheet.now.bytes.now nodes.now × NodeFits sheet.now.bytes.now labels.now × EdgeFits sheet.now.bytes.now edges.now }
-    ensures { (result ≡ bound_in (instance_of sheet.now.bytes.now) (lent nodes.now labels.now edges.now [])) × (unsigned_abs result ≤ 384 * cost_limit) }
+pub(crate) fn lower_bound(held: &Checked) -> i64
+    ensures { (result ≡ bound_in (instance_of held.now.sheet.now.bytes.now) (lent_of held.now.lent)) × (unsigned_abs result ≤ 384 * cost_limit) }
 {
-    let least = label_leasts(sheet, labels);
-    let by_label = label_sum(&least, sheet.labels);
-    let by_node = node_sum(sheet, nodes);
-    let by_edge = edge_sum(sheet, edges);
+    let least = label_leasts(held);
+    let by_label = label_sum(&least, held.sheet.labels);
+    let by_node = node_sum(held);
+    let by_edge = edge_sum(held);
     plus(plus(by_node, by_edge), by_label)
 }

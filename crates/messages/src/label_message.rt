@@ -3,18 +3,17 @@ ghost use Rattle.std.specs.Prelude.{◌≡◌, ℕ, ◌+◌, ◌*◌, ◌^◌, �
 ghost use Rattle.integers.specs.Least.{least_from};
 ghost use Rattle.integers.specs.Sum.{Within};
 ghost use Rattle.integers.specs.Places.{others};
-ghost use Rattle.instance.specs.Sheet.{instance_of};
-ghost use Rattle.instance.specs.Instance.{exclusive, node_cells};
-ghost use Rattle.rules.specs.Calls.{cost_limit};
-ghost use Rattle.messages.specs.Lent.{NodeFits};
 ghost use Rattle.instance.specs.Refusal.{refused_in};
-ghost use Rattle.index.specs.Index.{held};
-ghost use Rattle.messages.specs.LabelMessage.{label_moved, label_move, node_amount, label_amount, label_given, PlaceAsked, Holders};
+ghost use Rattle.instance.specs.Instance.{exclusive, first, node_cells};
+ghost use Rattle.rules.specs.Calls.{cost_limit};
+ghost use Rattle.messages.specs.LabelMessage.{label_moved, label_move, node_amount, label_amount, label_given, PlaceAsked};
+ghost use Rattle.messages.specs.Records.{turned};
+ghost use Rattle.messages.specs.State.{instance_in};
 
-use crate::records::Record;
+use crate::records::{Flow, Record};
 use crate::rows::{amount_of, in_range, minus, plus, share_of};
-use crate::running::Run;
-use instance::{Refusal, Sheet};
+use crate::state::State;
+use instance::Refusal;
 
 // Moves `p` from the node cost to the label cost at the place `i`, where both stay within the limit.
 pub(crate) fn shift_label(
@@ -66,42 +65,39 @@ fn label_rival(labels: &[i64], places: &[u16], own: usize) -> i64
     best
 }
 
-// What the record's node cost gives to its label: kind 3. The node's costs begin at `at`.
-fn node_amount(sheet: &Sheet, nodes: &[i64], at: usize, step: Record) -> i64
-    requires place_asked { PlaceAsked sheet.now.bytes.now at step.node step.index step.share }
-    requires node_fits { NodeFits sheet.now.bytes.now nodes.now }
-    ensures { result ≡ node_amount (instance_of sheet.now.bytes.now) nodes.now step.node (at + step.index) step.share }
-{
-    let to = at + sheet.degree(step.node);
-    amount_of(&nodes[at..to], step.index, step.share)
-}
+impl State<'_> {
+    // What the record's node cost gives to its label: kind 3.
+    fn node_amount(&self, step: Record) -> i64
+        requires { PlaceAsked (instance_in self.now) step.node step.index step.share }
+        ensures { result ≡ node_amount (instance_in self.now) self.now.nodes.now step.node (first (instance_in self.now) step.node + step.index) step.share }
+    {
+        let sheet = &self.run.sheet;
+        let at = sheet.starts[step.node];
+        let to = at + sheet.degree(step.node);
+        amount_of(&self.nodes[at..to], step.index, step.share)
+    }
 
-// What the label cost at a place gives to the node: kind 4.
-fn label_amount(run: &Run, labels: &[i64], place: usize, share: u8) -> i64
-    requires place { (place < node_cells (instance_of run.now.sheet.bytes.now)) × (1 ≤ share) × (exclusive ((instance_of run.now.sheet.bytes.now).label place) ≡ true) }
-    requires node_fits { NodeFits run.now.sheet.bytes.now labels.now }
-    ensures { result ≡ label_amount (instance_of run.now.sheet.bytes.now) labels.now place share }
-{
-    let places = run.holders.row(run.sheet.label(place));
-    share_of(labels[place], label_rival(labels, places, place), share)
-}
+    // What the label cost at a place gives to the node: kind 4.
+    fn label_amount(&self, place: usize, share: u8) -> i64
+        requires { (place < node_cells (instance_in self.now)) × (1 ≤ share) × (exclusive ((instance_in self.now).label place) ≡ true) }
+        ensures { result ≡ label_amount (instance_in self.now) self.now.labels.now place share }
+    {
+        let places = self.run.holders.row(self.run.sheet.label(place));
+        share_of(
+            self.labels[place],
+            label_rival(self.labels, places, place),
+            share,
+        )
+    }
 
-// What goes from the node cost to the label cost at the record's place: kind 3, or turned round kind 4.
-pub(crate) fn given(
-    run: &Run,
-    nodes: &[i64],
-    labels: &[i64],
-    turned: bool,
-    at: usize,
-    step: Record,
-) -> i64
-    requires asked { PlaceAsked run.now.sheet.bytes.now at step.node step.index step.share }
-    requires node_fits { NodeFits run.now.sheet.bytes.now nodes.now × NodeFits run.now.sheet.bytes.now labels.now }
-    ensures { (result ≡ label_given (instance_of run.now.sheet.bytes.now) nodes.now labels.now turned step.node (at + step.index) step.share) × (unsigned_abs result ≤ 2 ^ 41) }
-{
-    if turned {
-        minus(0, label_amount(run, labels, at + step.index, step.share))
-    } else {
-        node_amount(&run.sheet, nodes, at, step)
+    // What goes from the node cost to the label cost at the record's place.
+    pub(crate) fn given(&self, flow: Flow, place: usize, step: Record) -> i64
+        requires { PlaceAsked (instance_in self.now) step.node step.index step.share × (place ≡ first (instance_in self.now) step.node + step.index) }
+        ensures { (result ≡ label_given (instance_in self.now) self.now.nodes.now self.now.labels.now (turned flow) step.node place step.share) × (unsigned_abs result ≤ 2 ^ 41) }
+    {
+        match flow {
+            Flow::FromNode => self.node_amount(step),
+            Flow::ToNode => minus(0, self.label_amount(place, step.share)),
+        }
     }
 }

@@ -1,23 +1,43 @@
-// What is lent: the refusals of the lengths, of the costs and of the incumbent.
-ghost use Rattle.std.specs.Prelude.{◌≡◌, ◌≤◌, ◌&&◌, length};
+// What is lent: the four buffers, and the refusals of their lengths, of the costs and of the incumbent.
+ghost use Rattle.std.specs.Prelude.{◌≡◌, ◌≤◌, ◌&&◌, ◌==◌, length};
 ghost use Rattle.integers.specs.Places.{every};
 ghost use Rattle.integers.specs.Checks.{within};
 ghost use Rattle.instance.specs.Refusal.{refused_in};
 ghost use Rattle.instance.specs.Sheet.{instance_of};
 ghost use Rattle.rules.specs.Calls.{cost_limit, incumbent_ok, lent_refusal};
-ghost use Rattle.messages.specs.Lent.{lent};
+ghost use Rattle.messages.specs.Lent.{lent_of};
 
 use crate::incumbent::{all_none, is_matching};
-use crate::opening::lengths_agree;
 use crate::rows::all_in_range;
 use instance::{Refusal, Sheet};
 
-// Whether each lent cost lies within the limit.
-fn costs_ok(nodes: &[i64], labels: &[i64], edges: &[i64], limit: u64) -> bool
-    requires { limit ≤ cost_limit }
-    ensures { result ≡ (every (within limit) nodes.now && every (within limit) labels.now && every (within limit) edges.now) }
+// The four lent buffers, to read.
+#[derive(Clone, Copy)]
+pub(crate) struct Lent<'a> {
+    pub nodes: &'a [i64],
+    pub labels: &'a [i64],
+    pub edges: &'a [i64],
+    pub incumbent: &'a [u8],
+}
+
+// Whether the four lengths are what they should be.
+pub(crate) fn lengths_agree(sheet: &Sheet, lent: Lent) -> bool
+    ensures { result ≡ (length lent.entry.nodes.now == sheet.now.positions && length lent.entry.labels.now == sheet.now.positions && length lent.entry.edges.now == sheet.now.cells && length lent.entry.incumbent.now == sheet.now.nodes) }
 {
-    all_in_range(nodes, limit) && all_in_range(labels, limit) && all_in_range(edges, limit)
+    lent.nodes.len() == sheet.positions
+        && lent.labels.len() == sheet.positions
+        && lent.edges.len() == sheet.cells
+        && lent.incumbent.len() == sheet.nodes
+}
+
+// Whether each lent cost lies within the limit.
+fn costs_ok(lent: Lent, limit: u64) -> bool
+    requires { limit ≤ cost_limit }
+    ensures { result ≡ (every (within limit) lent.entry.nodes.now && every (within limit) lent.entry.labels.now && every (within limit) lent.entry.edges.now) }
+{
+    all_in_range(lent.nodes, limit)
+        && all_in_range(lent.labels, limit)
+        && all_in_range(lent.edges, limit)
 }
 
 // Whether the kept bytes are none or a matching.
@@ -29,30 +49,17 @@ fn incumbent_ok(sheet: &Sheet, x: &[u8]) -> bool
 }
 
 // The first refusal of what is lent with a sheet that was read.
-pub(crate) fn check_lent(
-    sheet: &Sheet,
-    limit: u64,
-    nodes: &[i64],
-    labels: &[i64],
-    edges: &[i64],
-    incumbent: &[u8],
-) -> Result<(), Refusal>
+pub(crate) fn check_lent(sheet: &Sheet, limit: u64, lent: Lent) -> Result<(), Refusal>
     requires { limit ≤ cost_limit }
-    ensures { refused_in result ≡ lent_refusal sheet.now.bytes.now limit (lent nodes.now labels.now edges.now incumbent.now) }
+    ensures { refused_in result ≡ lent_refusal sheet.now.bytes.now limit (lent_of lent.entry) }
 {
-    if !lengths_agree(
-        sheet,
-        nodes.len(),
-        labels.len(),
-        edges.len(),
-        incumbent.len(),
-    ) {
+    if !lengths_agree(sheet, lent) {
         return Err(Refusal::BufferLength);
     }
-    if !costs_ok(nodes, labels, edges, limit) {
+    if !costs_ok(lent, limit) {
         return Err(Refusal::CostRange);
     }
-    if !incumbent_ok(sheet, incumbent) {
+    if !incumbent_ok(sheet, lent.incumbent) {
         return Err(Refusal::BadIncumbent);
     }
     Ok(())

@@ -3,6 +3,7 @@
 
 pub mod answers;
 mod bound;
+mod checked;
 mod clash;
 mod edge_message;
 mod edge_record;
@@ -18,6 +19,7 @@ mod round_record;
 mod rounding;
 mod rows;
 mod running;
+mod state;
 mod turn;
 mod usable;
 

@@ -1,32 +1,29 @@
-// A record of a list, and those of kinds 1 to 4: whether what each names exists, and then the move.
+// A record of a list, and the messages: whether what each names exists, and then the move.
 ghost use Rattle.std.specs.Prelude.{◌≡◌, ◌≤◌, length};
 ghost use Rattle.instance.specs.Refusal.{refused_in};
 ghost use Rattle.instance.specs.Sheet.{instance_of};
-ghost use Rattle.rules.specs.Calls.{cost_limit};
-ghost use Rattle.rules.specs.Run.{kind_of, legal_share, legal_edge, legal_position};
-ghost use Rattle.messages.specs.Lent.{NodeFits, EdgeFits};
-ghost use Rattle.messages.specs.LabelMessage.{label_move};
-ghost use Rattle.messages.specs.EdgeRecord.{edge_move};
-ghost use Rattle.messages.specs.Records.{kind_as, head_of, label_taken, edge_taken};
+ghost use Rattle.rules.specs.Run.{kind_of, message, legal_share, legal_edge, legal_position};
+ghost use Rattle.messages.specs.Records.{kind_as, head_of, edge_message, label_message};
+ghost use Rattle.messages.specs.State.{Same, buffers_in, leaves};
+ghost use Rattle.messages.specs.Step.{settle};
 
 use crate::edge_record::move_edge;
-use crate::label_message::{given, shift_label};
-use crate::running::Run;
+use crate::label_message::shift_label;
+use crate::state::State;
 use instance::{Refusal, Sheet, exclusive};
 
-// A message: between a node and an edge, or a node and a label.
+// Which way a message goes: from the node, or to it.
 #[derive(Clone, Copy, Debug, PartialEq, Eq)]
-pub(crate) enum Way {
-    NodeToEdge,
-    EdgeToNode,
-    NodeToLabel,
-    LabelToNode,
+pub(crate) enum Flow {
+    FromNode,
+    ToNode,
 }
 
-// What a record does.
+// What a record does: a message between a node and an edge or a node and a label, or a rounding.
 #[derive(Clone, Copy, Debug, PartialEq, Eq)]
 pub(crate) enum Kind {
-    Message(Way),
+    Edge(Flow),
+    Label(Flow),
     Rounding,
 }
 
@@ -36,10 +33,10 @@ impl Kind {
         ensures { result ≡ kind_as (kind_of number) }
     {
         match number {
-            1 => Some(Kind::Message(Way::NodeToEdge)),
-            2 => Some(Kind::Message(Way::EdgeToNode)),
-            3 => Some(Kind::Message(Way::NodeToLabel)),
-            4 => Some(Kind::Message(Way::LabelToNode)),
+            1 => Some(Kind::Edge(Flow::FromNode)),
+            2 => Some(Kind::Edge(Flow::ToNode)),
+            3 => Some(Kind::Label(Flow::FromNode)),
+            4 => Some(Kind::Label(Flow::ToNode)),
             5 => Some(Kind::Rounding),
             _ => None,
         }
@@ -109,42 +106,32 @@ fn legal_position(sheet: &Sheet, step: Record) -> bool
     false
 }
 
-// A record of kind 1, or turned round of kind 2.
-pub(crate) fn edge_record(
-    sheet: &Sheet,
-    limit: u64,
-    nodes: &mut [i64],
-    edges: &mut [i64],
-    turned: bool,
-    step: Record,
-) -> Result<(), Refusal>
-    requires limited { limit ≤ cost_limit }
-    requires fits { NodeFits sheet.now.bytes.now nodes.old × EdgeFits sheet.now.bytes.now edges.old }
-    ensures { edge_move (refused_in result) nodes.new edges.new ≡ edge_taken (instance_of sheet.now.bytes.now) limit nodes.old edges.old turned step.node step.index step.share }
-{
-    if legal_edge(sheet, step) {
-        move_edge(sheet, limit, nodes, edges, turned, step)
-    } else {
-        Err(Refusal::NoSuchRecord)
+impl State<'_> {
+    // A message between a node and an edge: kinds 1 and 2.
+    pub(crate) fn edge_record(&mut self, flow: Flow, step: Record) -> Result<(), Refusal>
+        ensures same { Same self.old self.new }
+        ensures left { settle (buffers_in self.new) 0 (refused_in result) ≡ leaves self.old (message (edge_message flow)) step }
+    {
+        let run = self.run;
+        if legal_edge(&run.sheet, step) {
+            move_edge(&run.sheet, run.limit, self.nodes, self.edges, flow, step)
+        } else {
+            Err(Refusal::NoSuchRecord)
+        }
     }
-}
 
-// A record of kind 3, or turned round of kind 4.
-pub(crate) fn label_record(
-    run: &Run,
-    nodes: &mut [i64],
-    labels: &mut [i64],
-    turned: bool,
-    step: Record,
-) -> Result<(), Refusal>
-    requires { NodeFits run.now.sheet.bytes.now nodes.old × NodeFits run.now.sheet.bytes.now labels.old }
-    ensures { label_move (refused_in result) nodes.new labels.new ≡ label_taken (instance_of run.now.sheet.bytes.now) run.now.limit nodes.old labels.old turned step.node step.index step.share }
-{
-    if legal_position(&run.sheet, step) {
-        let at = run.sheet.starts[step.node];
-        let p = given(run, nodes, labels, turned, at, step);
-        shift_label(nodes, labels, at + step.index, p, run.limit)
-    } else {
-        Err(Refusal::NoSuchRecord)
+    // A message between a node and a label: kinds 3 and 4.
+    pub(crate) fn label_record(&mut self, flow: Flow, step: Record) -> Result<(), Refusal>
+        ensures same { Same self.old self.new }
+        ensures left { settle (buffers_in self.new) 0 (refused_in result) ≡ leaves self.old (message (label_message flow)) step }
+    {
+        let run = self.run;
+        if legal_position(&run.sheet, step) {
+            let place = run.sheet.starts[step.node] + step.index;
+            let p = self.given(flow, place, step);
+            shift_label(self.nodes, self.labels, place, p, run.limit)
+        } else {
+            Err(Refusal::NoSuchRecord)
+        }
     }
 }

@@ -1,13 +1,14 @@
 // Reporting: the bound, and where a matching is kept its cost on the sheet and the gap.
 ghost use Rattle.std.specs.Prelude.{◌≡◌, ◌*◌, ◌≤◌, unsigned_abs};
-ghost use Rattle.rules.specs.Calls.{cost_limit, lent_refusal, told, report_of};
-ghost use Rattle.messages.specs.Lent.{lent};
+ghost use Rattle.rules.specs.Calls.{cost_limit, told, report_of};
+ghost use Rattle.messages.specs.Lent.{lent, lent_of};
 ghost use Rattle.messages.specs.Answers.{reported_as, against};
 
 use crate::answers::Report;
 use crate::bound::lower_bound;
+use crate::checked::Checked;
 use crate::incumbent::{none_kept, price};
-use crate::lent::check_lent;
+use crate::lent::{Lent, check_lent};
 use crate::rows::minus;
 use crate::running::COST_LIMIT;
 use instance::{Refusal, Sheet};
@@ -24,24 +25,19 @@ fn answer(bound: i64, cost: i64) -> Result<Report, Refusal>
 }
 
 // The report of what was found good.
-fn tell(
-    sheet: &Sheet,
-    nodes: &[i64],
-    labels: &[i64],
-    edges: &[i64],
-    incumbent: &[u8],
-) -> Result<Report, Refusal>
-    requires { lent_refusal sheet.now.bytes.now cost_limit (lent nodes.now labels.now edges.now incumbent.now) ≡ 0 }
-    ensures { reported_as result ≡ told sheet.now.bytes.now (lent nodes.now labels.now edges.now incumbent.now) }
+fn tell(held: &Checked) -> Result<Report, Refusal>
+    ensures { reported_as result ≡ told held.now.sheet.now.bytes.now (lent_of held.now.lent) }
 {
-    let bound = lower_bound(sheet, nodes, labels, edges);
+    let bound = lower_bound(held);
+    let incumbent = held.lent.incumbent;
     if none_kept(incumbent) {
         return Ok(Report::Bound(bound));
     }
-    answer(bound, price(sheet, incumbent))
+    answer(bound, price(held.sheet, incumbent))
 }
 
 // The bound, or the bound, the kept matching's cost and the gap. Refused where the sheet or what is lent is, or where the bound exceeds the cost.
+// Kept: the buffers one by one, as C lends them.
 pub fn report(
     sheet: &[u8],
     nodes: &[i64],
@@ -52,6 +48,16 @@ pub fn report(
     ensures { reported_as result ≡ report_of sheet.now cost_limit (lent nodes.now labels.now edges.now incumbent.now) }
 {
     let sheet = Sheet::read(sheet)?;
-    check_lent(&sheet, COST_LIMIT, nodes, labels, edges, incumbent)?;
-    tell(&sheet, nodes, labels, edges, incumbent)
+    let lent = Lent {
+        nodes,
+        labels,
+        edges,
+        incumbent,
+    };
+    check_lent(&sheet, COST_LIMIT, lent)?;
+    let held = Checked {
+        sheet: &sheet,
+        lent,
+    };
+    tell(&held)
 }

@@ -5,10 +5,10 @@ ghost use Rattle.instance.specs.Instance.{first};
 ghost use Rattle.instance.specs.Sheet.{instance_of};
 ghost use Rattle.rules.specs.Calls.{cost_limit};
 ghost use Rattle.rules.specs.Rounding.{round};
-ghost use Rattle.messages.specs.Lent.{EdgeFits};
-ghost use Rattle.messages.specs.Rounded.{costs_by, rounded_by, added, keys_at, edge_row, better, chosen_from, Placed, RoundAsked};
+ghost use Rattle.messages.specs.Rounded.{costs_by, rounded_by, added, keys_at, edge_row, better, chosen_from, Placed};
+ghost use Rattle.messages.specs.State.{instance_in};
 
-use crate::running::Run;
+use crate::state::State;
 use instance::{Sheet, exclusive};
 
 // Adds a row of costs to the keys, place by place.
@@ -21,42 +21,6 @@ fn add_cells(keys: &mut [i64], row: &[i64])
     for (i, cost) in row.iter().enumerate() {
         keys[i] = keys[i] + *cost;
     }
-}
-
-// Adds the row of edge `e` that its lower end's position picks; `u` is its higher end.
-fn add_edge(
-    sheet: &Sheet,
-    edges: &[i64],
-    positions: &[u8; 64],
-    u: usize,
-    e: usize,
-    keys: &mut [i64],
-)
-    requires edge_fits { EdgeFits sheet.now.bytes.now edges.now }
-    requires placed { Placed sheet.now.bytes.now positions.now u × (e < sheet.now.edges) × ((instance_of sheet.now.bytes.now).high e ≡ u) }
-    requires keys_len { (length keys.old ≡ 16) × Within (2 ^ 50) keys.old }
-    ensures { keys.new ≡ added keys.old (edge_row (instance_of sheet.now.bytes.now) edges.now positions.now e) }
-{
-    let low = sheet.low(e);
-    let degree = sheet.degree(u);
-    let row = sheet.tables[e] + degree * usize::from(positions[low]);
-    add_cells(keys, &edges[row..row + degree]);
-}
-
-// The keys of the positions of `u`: node costs, and edge cells to the nodes below it, by the edges of which `u` is the higher end.
-fn keys_of(run: &Run, nodes: &[i64], edges: &[i64], positions: &[u8; 64], u: usize) -> [i64; 16]
-    requires round_asked { RoundAsked run.now.sheet.bytes.now nodes.now edges.now }
-    requires u_lt_nodes { (u < run.now.sheet.nodes) × Placed run.now.sheet.bytes.now positions.now u }
-    ensures { result ≡ keys_at (instance_of run.now.sheet.bytes.now) (costs_by nodes.now edges.now) positions.now u }
-{
-    let sheet = &run.sheet;
-    let start = sheet.starts[u];
-    let mut keys = [0i64; 16];
-    add_cells(&mut keys, &nodes[start..start + sheet.degree(u)]);
-    for e in run.lowers.row(u) {
-        add_edge(sheet, edges, positions, u, usize::from(*e), &mut keys);
-    }
-    keys
 }
 
 // The better of the best so far, if there is one, and the position `k`, which counts if it is free.
@@ -87,20 +51,50 @@ fn choose(sheet: &Sheet, u: usize, keys: &[i64; 16], untaken: &[bool; 256]) -> O
     best
 }
 
-// Rounds by the costs in `nodes` and `edges`: a position for each node, or none where no label is left for one. `x` has the positions of the nodes below `u`, and `untaken` the labels that may still be taken: 255, and those that none of them takes.
-pub(crate) fn round_all(run: &Run, nodes: &[i64], edges: &[i64]) -> Option<[u8; 64]>
-    requires { RoundAsked run.now.sheet.bytes.now nodes.now edges.now }
-    ensures { result ≡ rounded_by (round (instance_of run.now.sheet.bytes.now) (costs_by nodes.now edges.now)) }
-{
-    let sheet = &run.sheet;
-    let mut x = [0u8; 64];
-    let mut untaken = [true; 256];
-    for u in 0..sheet.nodes {
-        let keys = keys_of(run, nodes, edges, &x, u);
-        let k = choose(sheet, u, &keys, &untaken)?;
-        x[u] = k as u8;
-        let label = sheet.label(sheet.starts[u] + k);
-        untaken[label] = !exclusive(label);
+impl State<'_> {
+    // Adds the row of edge `e` that its lower end's position picks; `u` is its higher end.
+    fn add_edge(&self, positions: &[u8; 64], u: usize, e: usize, keys: &mut [i64])
+        requires placed { Placed (instance_in self.now) positions.now u × (e < self.now.run.now.sheet.edges) × ((instance_in self.now).high e ≡ u) }
+        requires keys_len { (length keys.old ≡ 16) × Within (2 ^ 50) keys.old }
+        ensures { keys.new ≡ added keys.old (edge_row (instance_in self.now) self.now.edges.now positions.now e) }
+    {
+        let sheet = &self.run.sheet;
+        let low = sheet.low(e);
+        let degree = sheet.degree(u);
+        let row = sheet.tables[e] + degree * usize::from(positions[low]);
+        add_cells(keys, &self.edges[row..row + degree]);
     }
-    Some(x)
+
+    // The keys of the positions of `u`: node costs, and edge cells to the nodes below it, by the edges of which `u` is the higher end.
+    fn keys_of(&self, positions: &[u8; 64], u: usize) -> [i64; 16]
+        requires { (u < self.now.run.now.sheet.nodes) × Placed (instance_in self.now) positions.now u }
+        ensures { result ≡ keys_at (instance_in self.now) (costs_by self.now.nodes.now self.now.edges.now) positions.now u }
+    {
+        let sheet = &self.run.sheet;
+        let start = sheet.starts[u];
+        let mut keys = [0i64; 16];
+        add_cells(&mut keys, &self.nodes[start..start + sheet.degree(u)]);
+        for e in self.run.lowers.row(u) {
+            self.add_edge(positions, u, usize::from(*e), &mut keys);
+        }
+        keys
+    }
+
+    // Rounds by the node and edge costs: a position for each node, or none where no label is left for one. `x` has the positions of the nodes below `u`, and `untaken` the labels that may still be taken: 255, and those that none of them takes.
+    pub(crate) fn round_all(&self) -> Option<[u8; 64]>
+        ensures { result ≡ rounded_by (round (instance_in self.now) (costs_by self.now.nodes.now self.now.edges.now)) }
+    {
+        let sheet = &self.run.sheet;
+        let mut x = [0u8; 64];
+        let mut untaken = [true; 256];
+        for u in 0..sheet.nodes {
+            let keys = self.keys_of(&x, u);
+            let k = choose(sheet, u, &keys, &untaken)?;
+            // Kept: a position is below 16, so `try_from` would add a case that cannot happen.
+            x[u] = k as u8;
+            let label = sheet.label(sheet.starts[u] + k);
+            untaken[label] = !exclusive(label);
+        }
+        Some(x)
+    }
 }

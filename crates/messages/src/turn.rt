@@ -1,58 +1,28 @@
 // One record of a run, by its kind.
-ghost use Rattle.std.specs.Prelude.{◌≡◌, ℕ, List, length, ◌≤◌};
-ghost use Rattle.instance.specs.Sheet.{instance_of};
-ghost use Rattle.messages.specs.Lent.{lent, NodeFits, EdgeFits};
-ghost use Rattle.messages.specs.Step.{settle, messaged, settled_by, stuck_in};
-ghost use Rattle.messages.specs.Turn.{Good};
+ghost use Rattle.std.specs.Prelude.{◌≡◌, ◌≤◌, length};
 ghost use Rattle.instance.specs.Refusal.{refused_in};
+ghost use Rattle.messages.specs.Step.{settle, settled_by, stuck_in};
+ghost use Rattle.messages.specs.State.{Same, instance_in, limit_in, buffers_in};
 
-use crate::records::{Kind, Record, Way, edge_record, label_record};
-use crate::round_record::round_record;
-use crate::running::Run;
+use crate::records::{Kind, Record};
+use crate::state::State;
 use instance::Refusal;
 
-// A record of kinds 1 to 4; it leaves the incumbent, whatever it is, alone.
-fn message(
-    run: &Run,
-    nodes: &mut [i64],
-    labels: &mut [i64],
-    edges: &mut [i64],
-    way: Way,
-    step: Record,
-) -> Result<(), Refusal>
-    requires fits { NodeFits run.now.sheet.bytes.now nodes.old × NodeFits run.now.sheet.bytes.now labels.old × EdgeFits run.now.sheet.bytes.now edges.old }
-    ensures { (x : List ℕ) → Good run.now.sheet.bytes.now run.now.limit (lent nodes.old labels.old edges.old x) → settle (lent nodes.new labels.new edges.new x) 0 (refused_in result) ≡ messaged (instance_of run.now.sheet.bytes.now) run.now.limit (lent nodes.old labels.old edges.old x) way step }
-{
-    let sheet = &run.sheet;
-    match way {
-        Way::NodeToEdge => edge_record(sheet, run.limit, nodes, edges, false, step),
-        Way::EdgeToNode => edge_record(sheet, run.limit, nodes, edges, true, step),
-        Way::NodeToLabel => label_record(run, nodes, labels, false, step),
-        Way::LabelToNode => label_record(run, nodes, labels, true, step),
-    }
-}
-
-// A record in five bytes; a kind that does not exist is refused. How many roundings were stuck, 0 or 1.
-pub(crate) fn one_record(
-    run: &Run,
-    nodes: &mut [i64],
-    labels: &mut [i64],
-    edges: &mut [i64],
-    incumbent: &mut [u8],
-    bytes: &[u8],
-) -> Result<usize, Refusal>
-    requires room { 5 ≤ length bytes.now }
-    requires good { Good run.now.sheet.bytes.now run.now.limit (lent nodes.old labels.old edges.old incumbent.old) }
-    ensures { settle (lent nodes.new labels.new edges.new incumbent.new) (stuck_in result) (refused_in result) ≡ settled_by (instance_of run.now.sheet.bytes.now) run.now.limit (lent nodes.old labels.old edges.old incumbent.old) bytes.now }
-{
-    let Some(step) = Record::of(bytes) else {
-        return Err(Refusal::NoSuchRecord);
-    };
-    match step.kind {
-        Kind::Rounding => round_record(run, nodes, edges, incumbent, step),
-        Kind::Message(way) => {
-            message(run, nodes, labels, edges, way, step)?;
-            Ok(0)
+impl State<'_> {
+    // A record in five bytes; a kind that does not exist is refused. How many roundings were stuck, 0 or 1.
+    pub(crate) fn one_record(&mut self, bytes: &[u8]) -> Result<usize, Refusal>
+        requires { 5 ≤ length bytes.now }
+        ensures same { Same self.old self.new }
+        ensures left { settle (buffers_in self.new) (stuck_in result) (refused_in result) ≡ settled_by (instance_in self.old) (limit_in self.old) (buffers_in self.old) bytes.now }
+    {
+        let Some(step) = Record::of(bytes) else {
+            return Err(Refusal::NoSuchRecord);
+        };
+        match step.kind {
+            Kind::Edge(flow) => self.edge_record(flow, step)?,
+            Kind::Label(flow) => self.label_record(flow, step)?,
+            Kind::Rounding => return self.round_record(step),
         }
+        Ok(0)
     }
 }

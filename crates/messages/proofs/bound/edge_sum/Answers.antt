@@ -14,6 +14,7 @@ use Rattle.messages.proofs.RowLaws.{least_of_within}
 use Rattle.messages.proofs.SumLaws.{summed_none, part_inside, part_is, part_length, part_range, summed_fits, summed_more, added_all}
 use Rattle.instance.proofs.Sheets.{edges_few}
 use Rattle.messages.proofs.BoundLaws.{edge_parts}
+use Rattle.messages.proofs.StateLaws.{edges_held}
 use Rattle.messages.proofs.bound.edge_sum.Goals as goal
 use Rattle.messages.proofs.bound.edge_sum.Goals.{After-cell_least, After-size, At-loop-e, Start}
 
@@ -29,21 +30,21 @@ module _ (d : After-size) where
   start = (goal.at.At-loop-e head).Start
 
   abbrev s : List ℕ
-  s = start.args.sheet.now.bytes.now
+  s = start.args.held.now.sheet.now.bytes.now
 
   abbrev I : Instance
   I = instance_of s
 
   abbrev cells : List ℤ
-  cells = let a = head.loop-e.at in part start.args.edges.now a (a + d.size.result - a)
+  cells = let a = head.loop-e.at in part start.args.held.now.lent.edges.now a (a + d.size.result - a)
 
-  inside : head.loop-e.at + d.size.result ≤ length start.args.edges.now
-  inside = part_inside head.loop-e.invariant d.loop-e-test.true d.size.result d.size.ensures.0 (edge_parts start.args.sheet.now start.requires)
+  inside : head.loop-e.at + d.size.result ≤ length start.args.held.now.lent.edges.now
+  inside = part_inside head.loop-e.invariant d.loop-e-test.true d.size.result d.size.ensures.0 (edge_parts start.args.held.now.sheet.now (edges_held start.args.held.now))
 
   fits : Fits (table_size I head.loop-e.e) cells
   fits = record {
-    size = part_length head.loop-e.invariant d.loop-e-test.true d.size.result d.size.ensures.0 (edge_parts start.args.sheet.now start.requires);
-    range = part_range head.loop-e.invariant d.loop-e-test.true d.size.result d.size.ensures.0 (edge_parts start.args.sheet.now start.requires);
+    size = part_length head.loop-e.invariant d.loop-e-test.true d.size.result d.size.ensures.0 (edge_parts start.args.held.now.sheet.now (edges_held start.args.held.now));
+    range = part_range head.loop-e.invariant d.loop-e-test.true d.size.result d.size.ensures.0 (edge_parts start.args.held.now.sheet.now (edges_held start.args.held.now));
   }
 
   -- the least usable of some cells of this edge
@@ -62,14 +63,14 @@ least-is c = answer c.cell_least.type_inv c.cell_least.ensures
 pub plus-sum-requires : goal.plus-sum-requires
 plus-sum-requires c =
     let d = (goal.at.plus-sum-requires c).After-size in rw (least-is c)
-    (summed_fits (head d).loop-e.invariant c.loop-e-test.true c.size.result c.size.ensures.0 (least d (cells d)) (small d) (omega (arith, edges_few (start d).args.sheet.now)))
+    (summed_fits (head d).loop-e.invariant c.loop-e-test.true c.size.result c.size.ensures.0 (least d (cells d)) (small d) (omega (arith, edges_few (start d).args.held.now.sheet.now)))
 
 pub loop-e-preserved : goal.loop-e-preserved
 unfolding table
 loop-e-preserved c =
     let d = (goal.at.loop-e-preserved c).After-size in rw (answer c.plus-sum.type_inv c.plus-sum.ensures, least-is (goal.at.loop-e-preserved c).After-cell_least)
     (summed_more (head d).loop-e.invariant c.loop-e-test.true c.size.result c.size.ensures.0 (least d (cells d)) (small d)
-    (ap (least d) (part_is (head d).loop-e.invariant c.loop-e-test.true c.size.result c.size.ensures.0 (edge_parts (start d).args.sheet.now (start d).requires))))
+    (ap (least d) (part_is (head d).loop-e.invariant c.loop-e-test.true c.size.result c.size.ensures.0 (edge_parts (start d).args.held.now.sheet.now (edges_held (start d).args.held.now)))))
 
 pub returns : goal.returns
 returns c = let i = c.loop-e.invariant in added_all i.added i.upto c.loop-e-test.false
@@ -77,11 +78,11 @@ returns c = let i = c.loop-e.invariant in added_all i.added i.upto c.loop-e-test
 pub overflow_add-to : goal.overflow_add-to
 overflow_add-to c = omega (arith, inside c)
 
-pub offset_bounds-edges-at : goal.offset_bounds-edges-at
-offset_bounds-edges-at c = omega (arith, inside c)
+pub offset_bounds-held-at : goal.offset_bounds-held-at
+offset_bounds-held-at c = omega (arith, inside (goal.at.offset_bounds-held-at c).After-size)
 
 pub slice_bounds-cell_least-end : goal.slice_bounds-cell_least-end
-slice_bounds-cell_least-end c = omega (arith, inside c)
+slice_bounds-cell_least-end c = omega (arith, inside (goal.at.slice_bounds-cell_least-end c).After-size)
 
 pub cell_least-requires : goal.cell_least-requires
 cell_least-requires c = record { edge = c.loop-e-test.true; fits = fits (goal.at.cell_least-requires c).After-size }

@@ -6,4 +6,4 @@ use Rattle.messages.proofs.SumLaws.{Summed}
 use Rattle.messages.proofs.bound.edge_sum.Given as goal
 
 abbrev pub invariant-loop-e : goal.invariant-loop-e
-invariant-loop-e l = Summed (table_size (instance_of l.sheet.bytes.now)) (table_least l.sheet.bytes.now l.edges) l.sheet.edges l.sum l.at l.e
+invariant-loop-e l = Summed (table_size (instance_of l.held.sheet.now.bytes.now)) (table_least l.held.sheet.now.bytes.now l.held.lent.edges.now) l.held.sheet.now.edges l.sum l.at l.e

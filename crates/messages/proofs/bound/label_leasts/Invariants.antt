@@ -5,4 +5,4 @@ use Rattle.messages.specs.Bounds.{least_labels}
 use Rattle.messages.proofs.bound.label_leasts.Given as goal
 
 abbrev pub invariant-loop-i : goal.invariant-loop-i
-invariant-loop-i l = l.least ≡ least_labels (instance_of l.sheet.bytes.now) l.labels l.i
+invariant-loop-i l = l.least ≡ least_labels (instance_of l.held.sheet.now.bytes.now) l.held.lent.labels.now l.i

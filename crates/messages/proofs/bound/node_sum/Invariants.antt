@@ -5,4 +5,4 @@ use Rattle.messages.proofs.SumLaws.{Summed}
 use Rattle.messages.proofs.bound.node_sum.Given as goal
 
 abbrev pub invariant-loop-u : goal.invariant-loop-u
-invariant-loop-u l = Summed (instance_of l.sheet.bytes.now).degree (row_least (instance_of l.sheet.bytes.now) l.nodes) l.sheet.nodes l.sum l.at l.u
+invariant-loop-u l = Summed (instance_of l.held.sheet.now.bytes.now).degree (row_least (instance_of l.held.sheet.now.bytes.now) l.held.lent.nodes.now) l.held.sheet.now.nodes l.sum l.at l.u

@@ -4,14 +4,14 @@ use Rattle.instance.specs.Sheet.{instance_of}
 use Rattle.instance.proofs.Sheets.{nodes_is}
 use Rattle.rules.specs.Costs.{Buffers, in_range}
 use Rattle.rules.specs.Calls.{lengths_ok}
-use Rattle.messages.specs.Lent.{lent}
+use Rattle.messages.specs.Lent.{lent_of}
 use Rattle.rules.proofs.Opening.{lengths_are}
 use Rattle.messages.proofs.LentLaws.{lengths_by, lent_unfit, lent_far, lent_unmatched, lent_good, range_by}
 use Rattle.messages.proofs.lent.check_lent.Goals as goal
 use Rattle.messages.proofs.lent.check_lent.Goals.{After-incumbent_ok, Else-not-lengths_agree, Start}
 
 abbrev lends : Start → Buffers
-lends q = lent q.args.nodes.now q.args.labels.now q.args.edges.now q.args.incumbent.now
+lends q = lent_of q.args.lent
 
 -- past the lengths
 module _ (p : Else-not-lengths_agree) where

@@ -5,14 +5,14 @@ use Rattle.instance.specs.Refusal.{number, refused_in}
 use Rattle.instance.proofs.Told.{numbered}
 use Rattle.rules.specs.Costs.{Buffers}
 use Rattle.rules.specs.Calls.{lent_refusal}
-use Rattle.messages.specs.Lent.{lent}
+use Rattle.messages.specs.Lent.{lent_of}
 use Rattle.messages.proofs.LentLaws.{lent_unread}
 use Rattle.messages.proofs.RunLaws.{run_unread, run_partial, run_begins}
 use Rattle.messages.proofs.list.start.Goals as goal
 use Rattle.messages.proofs.list.start.Goals.{In_ok-sheet, Start}
 
 abbrev lends : Start → Buffers
-lends q = lent q.args.nodes.now q.args.labels.now q.args.edges.now q.args.incumbent.now
+lends q = lent_of q.args.lent
 
 pub returns-in_err-sheet-clause-refusal : goal.returns-in_err-sheet-clause-refusal
 returns-in_err-sheet-clause-refusal c =

@@ -45,6 +45,9 @@ returns-in_err-check_lent c =
     ap reported_as r ∙ ap (λ (x : Refusal). calls.refused (number x)) e
     ∙ report_refused q.args.sheet.now (lends q) cost_limit (number c.in_err-check_lent.field-0.0) (c.in_err-check_lent.ensures ∙ ap (λ (s : List ℕ). lent_refusal s cost_limit (lends q)) (same p)) (λ z. omega (arith, m))
 
+pub invariant_of-held : goal.invariant_of-held
+invariant_of-held c = record { good = sym c.in_ok-check_lent.ensures }
+
 pub returns : goal.returns
 returns c =
     let p = (goal.at.returns c).In_ok-sheet in let q = start p in

@@ -5,27 +5,23 @@ use Rattle.instance.specs.Sheet.{instance_of}
 use Rattle.rules.specs.Costs.{Buffers}
 use Rattle.rules.specs.Calls as calls
 use Rattle.rules.specs.Calls.{cost_limit}
-use Rattle.messages.specs.Lent.{lent}
+use Rattle.messages.specs.Lent.{lent_of}
 use Rattle.messages.specs.Answers.{against}
 use Rattle.messages.proofs.IncumbentLaws.{kept_labelling}
-use Rattle.messages.proofs.LentLaws.{LentWell, lent_well, fit_of}
+use Rattle.messages.proofs.LentLaws.{LentWell, lent_well}
 use Rattle.messages.proofs.ReportLaws.{told-bound, told_kept}
 use Rattle.messages.proofs.reporting.tell.Goals as goal
 use Rattle.messages.proofs.reporting.tell.Goals.{Start}
 
 module _ (q : Start) where
   abbrev sheet : List ℕ
-  sheet = q.args.sheet.now.bytes.now
+  sheet = q.args.held.now.sheet.now.bytes.now
 
   abbrev lends : Buffers
-  lends = lent q.args.nodes.now q.args.labels.now q.args.edges.now q.args.incumbent.now
+  lends = lent_of q.args.held.now.lent
 
   well : LentWell sheet cost_limit lends
-  well = lent_well sheet cost_limit lends q.requires
-
-pub lower_bound-bound-requires : goal.lower_bound-bound-requires
-lower_bound-bound-requires c =
-    let q = (goal.at.lower_bound-bound-requires c).Start in fit_of (sheet q) cost_limit (lends q) (omega arith) (well q).lengths (well q).ranged
+  well = lent_well sheet cost_limit lends q.args.held.now.good
 
 pub returns-then-none_kept : goal.returns-then-none_kept
 returns-then-none_kept c =

@@ -7,8 +7,8 @@ use Rattle.instance.proofs.Sheets as sheet
 use Rattle.rules.specs.Rounding.{choice}
 use Rattle.messages.specs.Rounded.{costs_by, or_none}
 use Rattle.messages.proofs.RoundTurns.{round_start, round_done, choice_read, round_stop, position_inside, round_turn}
-use Rattle.messages.proofs.rounding.round_all.Goals as goal
-use Rattle.messages.proofs.rounding.round_all.Goals.{After-choose, In_ok-k, Start}
+use Rattle.messages.proofs.state.State.round_all.Goals as goal
+use Rattle.messages.proofs.state.State.round_all.Goals.{After-choose, In_ok-k, Start}
 
 -- where the choice is made: the choice of the rules
 module _ (p : After-choose) where
@@ -16,7 +16,7 @@ module _ (p : After-choose) where
   q = (goal.at.After-choose p).Start
 
   abbrev s : Sheet
-  s = q.args.run.now.sheet
+  s = q.args.self.now.run.now.sheet
 
   abbrev I : Instance
   I = instance_of s.bytes.now
@@ -30,8 +30,8 @@ module _ (p : After-choose) where
   begins : get_or s.starts u 0 ≡ first I u
   begins = sheet.start_is s p.loop-u-test.true
 
-  picked : p.choose.result ≡ or_none (choice I (costs_by q.args.nodes.now q.args.edges.now) (take u p.loop-u.x) u)
-  picked = p.choose.ensures ∙ choice_read s q.args.nodes.now q.args.edges.now p.loop-u.invariant p.loop-u-test.true p.keys_of-keys.ensures
+  picked : p.choose.result ≡ or_none (choice I (costs_by q.args.self.now.nodes.now q.args.self.now.edges.now) (take u p.loop-u.x) u)
+  picked = p.choose.ensures ∙ choice_read s q.args.self.now.nodes.now q.args.self.now.edges.now p.loop-u.invariant p.loop-u-test.true p.keys_of-keys.ensures
 
 -- a choice
 module _ (o : In_ok-k) where
@@ -41,23 +41,23 @@ module _ (o : In_ok-k) where
   abbrev k : ℕ
   k = o.in_ok-k.k
 
-  made : Some k ≡ or_none (choice (I p) (costs_by (q p).args.nodes.now (q p).args.edges.now) (take (u p) p.loop-u.x) (u p))
+  made : Some k ≡ or_none (choice (I p) (costs_by (q p).args.self.now.nodes.now (q p).args.self.now.edges.now) (take (u p) p.loop-u.x) (u p))
   made = sym o.in_ok-k.was ∙ picked p
 
   position : k < (I p).degree (u p)
-  position = position_inside (s p) (q p).args.nodes.now (q p).args.edges.now p.loop-u.invariant p.loop-u-test.true made
+  position = position_inside (s p) (q p).args.self.now.nodes.now (q p).args.self.now.edges.now p.loop-u.invariant p.loop-u-test.true made
 
   inside : get_or (s p).starts (u p) 0 + k < (s p).positions
   inside = omega (arith, position, begins p, sheet.row_here (s p) p.loop-u-test.true)
 
 pub loop-u-init : goal.loop-u-init
-loop-u-init c = round_start c.args.run.now.sheet.bytes.now c.args.run.now.sheet.nodes c.args.nodes.now c.args.edges.now
+loop-u-init c = round_start c.args.self.now.run.now.sheet.bytes.now c.args.self.now.run.now.sheet.nodes c.args.self.now.nodes.now c.args.self.now.edges.now
 
 pub returns-in_err-k : goal.returns-in_err-k
 returns-in_err-k c =
     let p = (goal.at.returns-in_err-k c).After-choose in
     c.from_residual.ensures
-    ∙ round_stop (s p) (q p).args.nodes.now (q p).args.edges.now p.loop-u.invariant p.loop-u-test.true (sym c.in_err-k.was ∙ picked p)
+    ∙ round_stop (s p) (q p).args.self.now.nodes.now (q p).args.self.now.edges.now p.loop-u.invariant p.loop-u-test.true (sym c.in_err-k.was ∙ picked p)
 
 pub overflow_cast-x : goal.overflow_cast-x
 overflow_cast-x c =
@@ -82,7 +82,7 @@ label-label-requires c = inside (goal.at.label-label-requires c).In_ok-k
 pub loop-u-preserved : goal.loop-u-preserved
 loop-u-preserved c =
     let o = (goal.at.loop-u-preserved c).In_ok-k in let t = p o in
-    round_turn (s t) (q t).args.nodes.now (q t).args.edges.now t.loop-u.invariant t.loop-u-test.true (made o) (c.label-label.ensures.0 ∙ ap (λ (a : ℕ). (I t).label (a + k o)) (begins t)) c.exclusive.ensures
+    round_turn (s t) (q t).args.self.now.nodes.now (q t).args.self.now.edges.now t.loop-u.invariant t.loop-u-test.true (made o) (c.label-label.ensures.0 ∙ ap (λ (a : ℕ). (I t).label (a + k o)) (begins t)) c.exclusive.ensures
 
 pub returns : goal.returns
-returns c = round_done c.args.run.now.sheet c.args.nodes.now c.args.edges.now c.loop-u.invariant c.loop-u-test.false
+returns c = round_done c.args.self.now.run.now.sheet c.args.self.now.nodes.now c.args.self.now.edges.now c.loop-u.invariant c.loop-u-test.false

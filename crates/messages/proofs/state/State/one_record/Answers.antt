@@ -13,19 +13,19 @@ use Rattle.messages.specs.Step.{settled_as, settled_by}
 use Rattle.messages.proofs.KindLaws.{Headed, head_some, head_none, kind_rounding, kind_unknown}
 use Rattle.messages.proofs.RoundRecordLaws.{round_settled_lem}
 use Rattle.messages.proofs.TurnLaws.{fit, incumbent_fits, none_turn}
-use Rattle.messages.proofs.turn.one_record.Goals as goal
-use Rattle.messages.proofs.turn.one_record.Goals.{In-Some, Start}
+use Rattle.messages.proofs.state.State.one_record.Goals as goal
+use Rattle.messages.proofs.state.State.one_record.Goals.{In-Some, Start}
 
 -- what is lent, and the number of the kind
 module _ (q : Start) where
   abbrev lends : Buffers
-  lends = lent q.args.nodes.now q.args.labels.now q.args.edges.now q.args.incumbent.now
+  lends = lent q.args.self.now.nodes.now q.args.self.now.labels.now q.args.self.now.edges.now q.args.self.now.incumbent.now
 
   abbrev I : Instance
-  I = instance_of q.args.run.now.sheet.bytes.now
+  I = instance_of q.args.self.now.run.now.sheet.bytes.now
 
   abbrev limit : ℕ
-  limit = q.args.run.now.limit
+  limit = q.args.self.now.run.now.limit
 
   abbrev l : List ℕ
   l = q.args.bytes.now
@@ -51,11 +51,11 @@ module _ (p : In-Some) where
 pub round_record-requires : goal.round_record-requires
 round_record-requires c =
     let g = c.requires.good in
-    let f = fit g c.args.run.now.limited in
+    let f = fit g c.args.self.now.run.now.limited in
     record { round_asked = record { node_costs = f.0; edge_costs = f.2 }; incumbent_fits = incumbent_fits g }
 
 pub message-requires : goal.message-requires
-message-requires c = record { fits = fit c.requires.good c.args.run.now.limited }
+message-requires c = record { fits = fit c.requires.good c.args.self.now.run.now.limited }
 
 pub returns-in_default : goal.returns-in_default
 returns-in_default c =

@@ -8,8 +8,8 @@ use Rattle.rules.specs.Run.{step}
 use Rattle.messages.specs.Lent.{lent}
 use Rattle.messages.specs.Step.{settled, settled_by}
 use Rattle.messages.proofs.RunLaws.{ran_of, record_of, going_start, going_end, going_refused, going_few, going_next, five_bytes}
-use Rattle.messages.proofs.list.run_all.Goals as goal
-use Rattle.messages.proofs.list.run_all.Goals.{After-one_record, At-loop-done, In-loop-done, Start}
+use Rattle.messages.proofs.state.State.run_all.Goals as goal
+use Rattle.messages.proofs.state.State.run_all.Goals.{After-one_record, At-loop-done, In-loop-done, Start}
 
 -- a record was taken
 module _ (p : After-one_record) where
@@ -23,13 +23,13 @@ module _ (p : After-one_record) where
   start = (goal.at.At-loop-done head).Start
 
   abbrev I : Instance
-  I = instance_of start.args.run.now.sheet.bytes.now
+  I = instance_of start.args.self.now.run.now.sheet.bytes.now
 
   abbrev l : List ℕ
   l = start.args.records.now
 
   abbrev limit : ℕ
-  limit = start.args.run.now.limit
+  limit = start.args.self.now.run.now.limit
 
   abbrev at : ℕ
   at = 5 * head.loop-done.done
@@ -51,7 +51,7 @@ module _ (p : After-one_record) where
 
 pub loop-done-init : goal.loop-done-init
 loop-done-init c =
-    let a = c.args in going_start a.run.now.sheet.bytes.now a.run.now.limit a.records.now (lent a.nodes.now a.labels.now a.edges.now a.incumbent.now) c.requires.good c.requires.whole
+    let a = c.args in going_start a.self.now.run.now.sheet.bytes.now a.self.now.run.now.limit a.records.now (lent a.self.now.nodes.now a.self.now.labels.now a.self.now.edges.now a.self.now.incumbent.now) c.requires.good c.requires.whole
 
 pub overflow_add-stuck : goal.overflow_add-stuck
 overflow_add-stuck c =

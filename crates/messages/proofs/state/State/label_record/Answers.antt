@@ -11,8 +11,8 @@ use Rattle.messages.specs.declared.records.Record.{Record}
 use Rattle.messages.specs.LabelMessage.{label_moved, label_given, PlaceAsked}
 use Rattle.messages.proofs.LabelMessageLaws.{place_in}
 use Rattle.messages.proofs.RecordLaws.{label_taken_lem, label_refused, place_asked}
-use Rattle.messages.proofs.records.label_record.Goals as goal
-use Rattle.messages.proofs.records.label_record.Goals.{Start, Then-legal_position}
+use Rattle.messages.proofs.state.State.label_record.Goals as goal
+use Rattle.messages.proofs.state.State.label_record.Goals.{Start, Then-legal_position}
 
 -- a legal record
 module _ (p : Then-legal_position) where
@@ -20,7 +20,7 @@ module _ (p : Then-legal_position) where
   start = (goal.at.Then-legal_position p).Start
 
   abbrev x : Sheet
-  x = start.args.run.now.sheet
+  x = start.args.self.now.run.now.sheet
 
   abbrev I : Instance
   I = instance_of x.bytes.now
@@ -67,13 +67,13 @@ shift_label-requires c =
 pub returns-then-legal_position : goal.returns-then-legal_position
 returns-then-legal_position c =
     let p = (goal.at.returns-then-legal_position c).Then-legal_position in let a = (start p).args in
-    let k = a.run.now.limit in
+    let k = a.self.now.run.now.limit in
     c.shift_label.ensures
-    ∙ ap (label_moved k a.nodes.now a.labels.now (at p + (r p).index)) (same c.given-p.result c.given-p.type_inv ∙ c.given-p.ensures.0)
-    ∙ ap (λ (i : ℕ). label_moved k a.nodes.now a.labels.now (i + (r p).index) (label_given (I p) a.nodes.now a.labels.now a.turned (r p).node (i + (r p).index) (r p).share)) (begins p)
-    ∙ label_taken_lem (I p) k a.nodes.now a.labels.now a.turned (r p).node (r p).index (r p).share (legal p)
+    ∙ ap (label_moved k a.self.now.nodes.now a.self.now.labels.now (at p + (r p).index)) (same c.given-p.result c.given-p.type_inv ∙ c.given-p.ensures.0)
+    ∙ ap (λ (i : ℕ). label_moved k a.self.now.nodes.now a.self.now.labels.now (i + (r p).index) (label_given (I p) a.self.now.nodes.now a.self.now.labels.now a.turned (r p).node (i + (r p).index) (r p).share)) (begins p)
+    ∙ label_taken_lem (I p) k a.self.now.nodes.now a.self.now.labels.now a.turned (r p).node (r p).index (r p).share (legal p)
 
 pub returns-else-legal_position : goal.returns-else-legal_position
 returns-else-legal_position c =
     let a = c.args in
-    label_refused (instance_of a.run.now.sheet.bytes.now) a.run.now.limit a.nodes.now a.labels.now a.turned a.step.node a.step.index a.step.share (sym c.legal_position.ensures ∙ c.if-legal_position.false)
+    label_refused (instance_of a.self.now.run.now.sheet.bytes.now) a.self.now.run.now.limit a.self.now.nodes.now a.self.now.labels.now a.turned a.step.node a.step.index a.step.share (sym c.legal_position.ensures ∙ c.if-legal_position.false)

@@ -1,0 +1,48 @@
+-- `given` meets its contract: the node's amount, or the label's turned round.
+use Rattle.std.proofs.Common.{◌≡◌, ◌^◌, ◌≤◌, Bool, ℤ, pos, ◌-ℤ◌, nat_abs, sym, ap, ◌∙◌, subst, arith}
+use Rattle.integers.proofs.Bits.{same}
+use Rattle.messages.specs.declared.records.Flow.{Flow}
+use Rattle.messages.specs.LabelMessage.{node_amount, label_amount, label_given}
+use Rattle.messages.specs.Records.{turned}
+use Rattle.messages.specs.State.{instance_in}
+use Rattle.messages.proofs.RowLaws.{from_zero, zero_fits, neg_fits}
+use Rattle.messages.proofs.LabelMessageLaws.{place_in, node_fits, label_fits}
+use Rattle.messages.proofs.StateLaws.{nodes_fit, labels_fit}
+use Rattle.messages.proofs.state.State.given.Goals as goal
+use Rattle.messages.proofs.state.State.given.Goals.{Start}
+
+module _ (q : Start) where
+  abbrev given : Flow → ℤ
+  given f = let a = q.args in label_given (instance_in a.self.now) a.self.now.nodes.now a.self.now.labels.now (turned f) a.step.node a.place a.step.share
+
+  abbrev amount : ℤ
+  amount = let a = q.args in label_amount (instance_in a.self.now) a.self.now.labels.now a.place a.step.share
+
+  small : nat_abs amount ≤ 2 ^ 41
+  small = let a = q.args in label_fits (instance_in a.self.now) a.self.now.labels.now (labels_fit a.self.now).range a.place a.step.share
+
+pub node_amount-requires : goal.node_amount-requires
+node_amount-requires c = c.requires.0
+
+pub label_amount-requires : goal.label_amount-requires
+label_amount-requires c =
+    let (asked, at) = c.requires in
+    let f = labels_fit c.args.self.now in
+    (omega (arith, at, place_in asked c.args.self.now.labels.now f.size, f.size), asked.some, rw at asked.exclusive)
+
+pub minus-requires : goal.minus-requires
+minus-requires c =
+    let q = (goal.at.minus-requires c).Start in rw (same c.label_amount.result c.label_amount.type_inv, c.label_amount.ensures) (zero_fits (amount q) (small q))
+
+pub returns-in-ToNode : goal.returns-in-ToNode
+returns-in-ToNode c =
+    let q = (goal.at.returns-in-ToNode c).Start in let e =
+    same c.minus.result c.minus.type_inv ∙ c.minus.ensures ∙ ap (λ (z : ℤ). pos 0 -ℤ z) (same c.label_amount.result c.label_amount.type_inv ∙ c.label_amount.ensures) ∙ from_zero (amount q)
+    in (e ∙ ap (given q) (sym c.in-ToNode.is), subst (λ (z : ℤ). nat_abs z ≤ 2 ^ 41) (sym e) (neg_fits (amount q) (small q)))
+
+pub returns-in-FromNode : goal.returns-in-FromNode
+returns-in-FromNode c =
+    let q = (goal.at.returns-in-FromNode c).Start in
+    let a = q.args in
+    let e = same c.node_amount.result c.node_amount.type_inv ∙ c.node_amount.ensures ∙ (λ i. node_amount (instance_in a.self.now) a.self.now.nodes.now a.step.node (sym c.requires.1 i) a.step.share) in
+    (e ∙ ap (given q) (sym c.in-FromNode.is), subst (λ (z : ℤ). nat_abs z ≤ 2 ^ 41) (sym e) (node_fits (instance_in a.self.now) a.self.now.nodes.now (nodes_fit a.self.now).range a.step.node a.place a.step.share))
