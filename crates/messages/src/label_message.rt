@@ -11,6 +11,7 @@ ghost use Rattle.instance.specs.Refusal.{refused_in};
 ghost use Rattle.index.specs.Index.{held};
 ghost use Rattle.messages.specs.LabelMessage.{label_moved, label_move, node_amount, label_amount, label_given, PlaceAsked, Holders};
 
+use crate::limit::Limit;
 use crate::records::Record;
 use crate::rows::{amount_of, in_range, minus, plus, share_of};
 use crate::running::Run;
@@ -22,13 +23,13 @@ pub(crate) fn shift_label(
     labels: &mut [i64],
     i: usize,
     p: i64,
-    limit: u64,
+    limit: Limit,
 ) -> Result<(), Refusal>
     requires i_in_bounds { (i < length nodes.old) × (i < length labels.old) }
     requires within { Within cost_limit nodes.old }
     requires within_2 { Within cost_limit labels.old }
     requires p_bound { unsigned_abs p ≤ 2 ^ 41 }
-    ensures { label_move (refused_in result) nodes.new labels.new ≡ label_moved limit nodes.old labels.old i p }
+    ensures { label_move (refused_in result) nodes.new labels.new ≡ label_moved limit.most nodes.old labels.old i p }
 {
     let node = minus(nodes[i], p);
     let label = plus(labels[i], p);

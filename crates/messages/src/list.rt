@@ -1,5 +1,5 @@
 // A list of records, run one by one up to the first that is refused.
-ghost use Rattle.std.specs.Prelude.{◌≡◌, ◌%◌, ◌≤◌, length, IfOk};
+ghost use Rattle.std.specs.Prelude.{◌≡◌, ◌%◌, length, IfOk};
 ghost use Rattle.instance.specs.Refusal.{refused_in};
 ghost use Rattle.instance.specs.Sheet.{instance_of};
 ghost use Rattle.rules.specs.Run.{run_list};
@@ -10,7 +10,8 @@ ghost use Rattle.messages.specs.Answers.{ran_as};
 
 use crate::answers::Answer;
 use crate::lent::check_lent;
-use crate::running::{COST_LIMIT, Run};
+use crate::limit::{COST_LIMIT, Limit};
+use crate::running::Run;
 use crate::turn::one_record;
 use instance::{Refusal, Sheet};
 
@@ -23,9 +24,9 @@ fn run_all(
     edges: &mut [i64],
     incumbent: &mut [u8],
 ) -> Answer
-    requires good { Good run.now.sheet.bytes.now run.now.limit (lent nodes.old labels.old edges.old incumbent.old) }
+    requires good { Good run.now.sheet.bytes.now run.now.limit.most (lent nodes.old labels.old edges.old incumbent.old) }
     requires whole { length records.now % 5 ≡ 0 }
-    ensures { ran_as (lent nodes.new labels.new edges.new incumbent.new) result ≡ run_list (instance_of run.now.sheet.bytes.now) run.now.limit (lent nodes.old labels.old edges.old incumbent.old) records.now }
+    ensures { ran_as (lent nodes.new labels.new edges.new incumbent.new) result ≡ run_list (instance_of run.now.sheet.bytes.now) run.now.limit.most (lent nodes.old labels.old edges.old incumbent.old) records.now }
 {
     let many = records.len() / 5;
     let mut stuck = 0;
@@ -52,16 +53,15 @@ fn run_all(
 // What a run goes by, or why it is refused before its first record.
 fn start<'a>(
     sheet: &'a [u8],
-    limit: u64,
+    limit: Limit,
     records: &[u8],
     nodes: &[i64],
     labels: &[i64],
     edges: &[i64],
     incumbent: &[u8],
 ) -> Result<Run<'a>, Refusal>
-    requires { limit ≤ cost_limit }
-    ensures refusal { refused_in result ≡ run_refusal sheet.now limit (lent nodes.now labels.now edges.now incumbent.now) records.now }
-    ensures same { IfOk result (λ r. (r.sheet.bytes ≡ sheet.entry) × (r.limit ≡ limit)) }
+    ensures refusal { refused_in result ≡ run_refusal sheet.now limit.most (lent nodes.now labels.now edges.now incumbent.now) records.now }
+    ensures same { IfOk result (λ r. (r.sheet.bytes ≡ sheet.entry) × (r.limit.most ≡ limit.most)) }
 {
     let sheet = Sheet::read(sheet)?;
     check_lent(&sheet, limit, nodes, labels, edges, incumbent)?;

@@ -2,7 +2,6 @@
 ghost use Rattle.std.specs.Prelude.{◌≡◌, ◌≤◌, length};
 ghost use Rattle.instance.specs.Refusal.{refused_in};
 ghost use Rattle.instance.specs.Sheet.{instance_of};
-ghost use Rattle.rules.specs.Calls.{cost_limit};
 ghost use Rattle.rules.specs.Run.{kind_of, legal_share, legal_edge, legal_position};
 ghost use Rattle.messages.specs.Lent.{NodeFits, EdgeFits};
 ghost use Rattle.messages.specs.LabelMessage.{label_move};
@@ -11,6 +10,7 @@ ghost use Rattle.messages.specs.Records.{kind_as, head_of, label_taken, edge_tak
 
 use crate::edge_record::move_edge;
 use crate::label_message::{given, shift_label};
+use crate::limit::Limit;
 use crate::running::Run;
 use instance::{Refusal, Sheet, exclusive};
 
@@ -112,15 +112,14 @@ fn legal_position(sheet: &Sheet, step: Record) -> bool
 // A record of kind 1, or turned round of kind 2.
 pub(crate) fn edge_record(
     sheet: &Sheet,
-    limit: u64,
+    limit: Limit,
     nodes: &mut [i64],
     edges: &mut [i64],
     turned: bool,
     step: Record,
 ) -> Result<(), Refusal>
-    requires limited { limit ≤ cost_limit }
-    requires fits { NodeFits sheet.now.bytes.now nodes.old × EdgeFits sheet.now.bytes.now edges.old }
-    ensures { edge_move (refused_in result) nodes.new edges.new ≡ edge_taken (instance_of sheet.now.bytes.now) limit nodes.old edges.old turned step.node step.index step.share }
+    requires { NodeFits sheet.now.bytes.now nodes.old × EdgeFits sheet.now.bytes.now edges.old }
+    ensures { edge_move (refused_in result) nodes.new edges.new ≡ edge_taken (instance_of sheet.now.bytes.now) limit.most nodes.old edges.old turned step.node step.index step.share }
 {
     if legal_edge(sheet, step) {
         move_edge(sheet, limit, nodes, edges, turned, step)
@@ -138,7 +137,7 @@ pub(crate) fn label_record(
     step: Record,
 ) -> Result<(), Refusal>
     requires { NodeFits run.now.sheet.bytes.now nodes.old × NodeFits run.now.sheet.bytes.now labels.old }
-    ensures { label_move (refused_in result) nodes.new labels.new ≡ label_taken (instance_of run.now.sheet.bytes.now) run.now.limit nodes.old labels.old turned step.node step.index step.share }
+    ensures { label_move (refused_in result) nodes.new labels.new ≡ label_taken (instance_of run.now.sheet.bytes.now) run.now.limit.most nodes.old labels.old turned step.node step.index step.share }
 {
     if legal_position(&run.sheet, step) {
         let at = run.sheet.starts[step.node];

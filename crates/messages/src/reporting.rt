@@ -8,8 +8,8 @@ use crate::answers::Report;
 use crate::bound::lower_bound;
 use crate::incumbent::{none_kept, price};
 use crate::lent::check_lent;
+use crate::limit::COST_LIMIT;
 use crate::rows::minus;
-use crate::running::COST_LIMIT;
 use instance::{Refusal, Sheet};
 
 // A bound beside the cost of what is kept: no bound may exceed it.

@@ -21,7 +21,7 @@ fn message(
     step: Record,
 ) -> Result<(), Refusal>
     requires fits { NodeFits run.now.sheet.bytes.now nodes.old × NodeFits run.now.sheet.bytes.now labels.old × EdgeFits run.now.sheet.bytes.now edges.old }
-    ensures { (x : List ℕ) → Good run.now.sheet.bytes.now run.now.limit (lent nodes.old labels.old edges.old x) → settle (lent nodes.new labels.new edges.new x) 0 (refused_in result) ≡ messaged (instance_of run.now.sheet.bytes.now) run.now.limit (lent nodes.old labels.old edges.old x) way step }
+    ensures { (x : List ℕ) → Good run.now.sheet.bytes.now run.now.limit.most (lent nodes.old labels.old edges.old x) → settle (lent nodes.new labels.new edges.new x) 0 (refused_in result) ≡ messaged (instance_of run.now.sheet.bytes.now) run.now.limit.most (lent nodes.old labels.old edges.old x) way step }
 {
     let sheet = &run.sheet;
     match way {
@@ -42,8 +42,8 @@ pub(crate) fn one_record(
     bytes: &[u8],
 ) -> Result<usize, Refusal>
     requires room { 5 ≤ length bytes.now }
-    requires good { Good run.now.sheet.bytes.now run.now.limit (lent nodes.old labels.old edges.old incumbent.old) }
-    ensures { settle (lent nodes.new labels.new edges.new incumbent.new) (stuck_in result) (refused_in result) ≡ settled_by (instance_of run.now.sheet.bytes.now) run.now.limit (lent nodes.old labels.old edges.old incumbent.old) bytes.now }
+    requires good { Good run.now.sheet.bytes.now run.now.limit.most (lent nodes.old labels.old edges.old incumbent.old) }
+    ensures { settle (lent nodes.new labels.new edges.new incumbent.new) (stuck_in result) (refused_in result) ≡ settled_by (instance_of run.now.sheet.bytes.now) run.now.limit.most (lent nodes.old labels.old edges.old incumbent.old) bytes.now }
 {
     let Some(step) = Record::of(bytes) else {
         return Err(Refusal::NoSuchRecord);

@@ -32,7 +32,7 @@ module _ (p : After-amounts_of-amounts) where
   small = subst (λ (v : List ℤ). Within (2 ^ 41) v) (sym p.amounts_of-amounts.ensures) (amounts_within start.requires.joined start.args.turned start.args.share)
 
   abbrev moved : List ℤ → ℕ → EdgeMove
-  moved v w = let x = start.args in parts_moved x.limit v x.row.now x.cells.now x.by_row w
+  moved v w = let x = start.args in parts_moved x.limit.most v x.row.now x.cells.now x.by_row w
 
 -- the same negated
 taken-small : (n : After-negated-taken) → Within (2 ^ 41) n.negated-taken.result
@@ -40,7 +40,7 @@ taken-small n = subst (λ (v : List ℤ). Within (2 ^ 41) v) (sym n.negated-take
 
 pub both_fit-requires : goal.both_fit-requires
 both_fit-requires c =
-    let p = (goal.at.both_fit-requires c).After-amounts_of-amounts in record { row_len_bound = let j = (start p).requires.joined in (j.few, shape p, j.row_range, j.cell_range); within = (small p, c.negated-taken.ensures, (start p).requires.le_share.1) }
+    let p = (goal.at.both_fit-requires c).After-amounts_of-amounts in record { row_len_bound = let j = (start p).requires.joined in (j.few, shape p, j.row_range, j.cell_range); within = (small p, c.negated-taken.ensures) }
 
 pub raise_each-requires : goal.raise_each-requires
 raise_each-requires c =

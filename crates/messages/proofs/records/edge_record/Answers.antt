@@ -12,14 +12,14 @@ legal p = sym p.legal_edge.ensures ∙ p.if-legal_edge.true
 pub move_edge-requires : goal.move_edge-requires
 move_edge-requires c =
     let a = c.args in
-    record { limited = c.requires.limited; legal = edge_legal c.requires.fits.0 c.requires.fits.1 a.step.node a.step.index a.step.share (legal (goal.at.move_edge-requires c).Then-legal_edge) }
+    edge_legal c.requires.0 c.requires.1 a.step.node a.step.index a.step.share (legal (goal.at.move_edge-requires c).Then-legal_edge)
 
 pub returns-then-legal_edge : goal.returns-then-legal_edge
 returns-then-legal_edge c =
     let a = c.args in
-    c.move_edge.ensures ∙ edge_taken_lem (instance_of a.sheet.now.bytes.now) a.limit a.nodes.now a.edges.now a.turned a.step.node a.step.index a.step.share (legal (goal.at.returns-then-legal_edge c).Then-legal_edge)
+    c.move_edge.ensures ∙ edge_taken_lem (instance_of a.sheet.now.bytes.now) a.limit.most a.nodes.now a.edges.now a.turned a.step.node a.step.index a.step.share (legal (goal.at.returns-then-legal_edge c).Then-legal_edge)
 
 pub returns-else-legal_edge : goal.returns-else-legal_edge
 returns-else-legal_edge c =
     let a = c.args in
-    edge_refused (instance_of a.sheet.now.bytes.now) a.limit a.nodes.now a.edges.now a.turned a.step.node a.step.index a.step.share (sym c.legal_edge.ensures ∙ c.if-legal_edge.false)
+    edge_refused (instance_of a.sheet.now.bytes.now) a.limit.most a.nodes.now a.edges.now a.turned a.step.node a.step.index a.step.share (sym c.legal_edge.ensures ∙ c.if-legal_edge.false)

@@ -67,7 +67,7 @@ shift_label-requires c =
 pub returns-then-legal_position : goal.returns-then-legal_position
 returns-then-legal_position c =
     let p = (goal.at.returns-then-legal_position c).Then-legal_position in let a = (start p).args in
-    let k = a.run.now.limit in
+    let k = a.run.now.limit.most in
     c.shift_label.ensures
     ∙ ap (label_moved k a.nodes.now a.labels.now (at p + (r p).index)) (same c.given-p.result c.given-p.type_inv ∙ c.given-p.ensures.0)
     ∙ ap (λ (i : ℕ). label_moved k a.nodes.now a.labels.now (i + (r p).index) (label_given (I p) a.nodes.now a.labels.now a.turned (r p).node (i + (r p).index) (r p).share)) (begins p)
@@ -76,4 +76,4 @@ returns-then-legal_position c =
 pub returns-else-legal_position : goal.returns-else-legal_position
 returns-else-legal_position c =
     let a = c.args in
-    label_refused (instance_of a.run.now.sheet.bytes.now) a.run.now.limit a.nodes.now a.labels.now a.turned a.step.node a.step.index a.step.share (sym c.legal_position.ensures ∙ c.if-legal_position.false)
+    label_refused (instance_of a.run.now.sheet.bytes.now) a.run.now.limit.most a.nodes.now a.labels.now a.turned a.step.node a.step.index a.step.share (sym c.legal_position.ensures ∙ c.if-legal_position.false)
