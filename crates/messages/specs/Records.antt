@@ -1,29 +1,34 @@
 -- One record, kind by kind: refused with 12 where what it names does not exist, else what its kind leaves.
-use Rattle.std.specs.Prelude.{Option, Some, None, ℕ, ◌+◌, ◌*◌, Bool, cond, List, ℤ, slice_index}
+use Rattle.std.specs.Prelude.{Option, Some, None, ℕ, ◌+◌, ◌*◌, Bool, true, false, cond, List, ℤ, slice_index}
 use Rattle.instance.specs.Instance.{Instance, first}
 use Rattle.rules.specs.Messages as rules
 use Rattle.rules.specs.Run as runs
 use Rattle.rules.specs.Run.{kind_of, legal_position, legal_edge}
+use Rattle.messages.specs.declared.records.Flow.{Flow}
+use Rattle.messages.specs.declared.records.Flow.TheVariants.{FromNode, ToNode}
 use Rattle.messages.specs.declared.records.Way.{Way}
-use Rattle.messages.specs.declared.records.Way.TheVariants.{NodeToEdge, EdgeToNode, NodeToLabel, LabelToNode}
+use Rattle.messages.specs.declared.records.Way.TheVariants.{Edge, Label}
 use Rattle.messages.specs.declared.records.Kind.{Kind}
 use Rattle.messages.specs.declared.records.Kind.TheVariants.{Message, Rounding}
 use Rattle.messages.specs.declared.records.Record.{Record}
 use Rattle.messages.specs.LabelMessage.{Moved, label_move, label_moved, label_given}
 use Rattle.messages.specs.EdgeRecord.{EdgeMove, edge_move, edge_moved}
 
+-- whether a message is turned round
+abbrev pub to_node : Flow → Bool
+to_node FromNode = false
+to_node ToNode = true
+
 -- the rules' message, and the rules' kind as the code has it: none for one that does not exist
 abbrev pub way_of : Way → rules.Message
-way_of NodeToEdge = rules.node_to_edge
-way_of EdgeToNode = rules.edge_to_node
-way_of NodeToLabel = rules.node_to_label
-way_of LabelToNode = rules.label_to_node
+way_of (Edge flow) = cond (to_node flow) rules.edge_to_node rules.node_to_edge
+way_of (Label flow) = cond (to_node flow) rules.label_to_node rules.node_to_label
 
 abbrev pub way_as : rules.Message → Way
-way_as rules.node_to_edge = NodeToEdge
-way_as rules.edge_to_node = EdgeToNode
-way_as rules.node_to_label = NodeToLabel
-way_as rules.label_to_node = LabelToNode
+way_as rules.node_to_edge = Edge FromNode
+way_as rules.edge_to_node = Edge ToNode
+way_as rules.node_to_label = Label FromNode
+way_as rules.label_to_node = Label ToNode
 
 abbrev pub kind_as : runs.Kind → Option Kind
 kind_as (runs.message m) = Some (Message (way_as m))

@@ -6,12 +6,13 @@ ghost use Rattle.instance.specs.Sheet.{instance_of};
 ghost use Rattle.rules.specs.Calls.{cost_limit};
 ghost use Rattle.messages.specs.EdgeMessage.{taken_of, Shape, width_of};
 ghost use Rattle.messages.specs.EdgeRecord.{edge_move, edge_moved, EdgeLegal, Joined, amounts_of, fit_parts, parts_moved};
+ghost use Rattle.messages.specs.Records.{to_node};
 
 use crate::edge_message::{
     cells_fit, edge_amounts, either, excess_each, move_cells, negated, node_amounts, raise_each,
 };
 use crate::limit::Limit;
-use crate::records::Record;
+use crate::records::{Flow, Record};
 use crate::rows::OUT;
 use instance::{Refusal, Sheet};
 
@@ -22,17 +23,16 @@ fn amounts_of(
     own: &[u8],
     other: &[u8],
     by_row: bool,
-    turned: bool,
+    flow: Flow,
     share: u8,
 ) -> [i64; 16]
     requires joined { Joined row.now cells.now by_row own.now other.now }
     requires le_share { 1 ≤ share }
-    ensures { result ≡ amounts_of turned by_row own.now other.now row.now cells.now share }
+    ensures { result ≡ amounts_of (to_node flow) by_row own.now other.now row.now cells.now share }
 {
-    if turned {
-        edge_amounts(cells, own, other, by_row, share)
-    } else {
-        node_amounts(row, share)
+    match flow {
+        Flow::FromNode => node_amounts(row, share),
+        Flow::ToNode => edge_amounts(cells, own, other, by_row, share),
     }
 }
 
@@ -65,17 +65,17 @@ fn move_parts(
     own: &[u8],
     other: &[u8],
     by_row: bool,
-    turned: bool,
+    flow: Flow,
     share: u8,
     limit: Limit,
 ) -> Result<(), Refusal>
     requires joined { Joined row.old cells.old by_row own.now other.now }
     requires le_share { 1 ≤ share }
-    ensures { edge_move (refused_in result) row.new cells.new ≡ parts_moved limit.most (amounts_of turned by_row own.now other.now row.old cells.old share) row.old cells.old by_row (width_of by_row own.now other.now) }
+    ensures { edge_move (refused_in result) row.new cells.new ≡ parts_moved limit.most (amounts_of (to_node flow) by_row own.now other.now row.old cells.old share) row.old cells.old by_row (width_of by_row own.now other.now) }
 {
     let width = either(by_row, other.len(), own.len());
     let height = either(by_row, own.len(), other.len());
-    let amounts = amounts_of(row, cells, own, other, by_row, turned, share);
+    let amounts = amounts_of(row, cells, own, other, by_row, flow, share);
     let taken = negated(&amounts);
     if both_fit(row, cells, width, height, by_row, &amounts, &taken, limit) {
         raise_each(row, &taken);
@@ -92,11 +92,11 @@ pub(crate) fn move_edge(
     limit: Limit,
     nodes: &mut [i64],
     edges: &mut [i64],
-    turned: bool,
+    flow: Flow,
     step: Record,
 ) -> Result<(), Refusal>
     requires { EdgeLegal sheet.now.bytes.now nodes.old edges.old step.node step.index step.share }
-    ensures { edge_move (refused_in result) nodes.new edges.new ≡ edge_moved (instance_of sheet.now.bytes.now) nodes.old edges.old limit.most turned step.node step.index step.share }
+    ensures { edge_move (refused_in result) nodes.new edges.new ≡ edge_moved (instance_of sheet.now.bytes.now) nodes.old edges.old limit.most (to_node flow) step.node step.index step.share }
 {
     let u = step.node;
     let e = step.index;
@@ -115,7 +115,7 @@ pub(crate) fn move_edge(
         own,
         other,
         by_row,
-        turned,
+        flow,
         step.share,
         limit,
     )

@@ -10,9 +10,10 @@ ghost use Rattle.messages.specs.Lent.{NodeFits};
 ghost use Rattle.instance.specs.Refusal.{refused_in};
 ghost use Rattle.index.specs.Index.{held};
 ghost use Rattle.messages.specs.LabelMessage.{label_moved, label_move, node_amount, label_amount, label_given, PlaceAsked, Holders};
+ghost use Rattle.messages.specs.Records.{to_node};
 
 use crate::limit::Limit;
-use crate::records::Record;
+use crate::records::{Flow, Record};
 use crate::rows::{amount_of, in_range, minus, plus, share_of};
 use crate::running::Run;
 use instance::{Refusal, Sheet};
@@ -92,17 +93,16 @@ pub(crate) fn given(
     run: &Run,
     nodes: &[i64],
     labels: &[i64],
-    turned: bool,
+    flow: Flow,
     at: usize,
     step: Record,
 ) -> i64
     requires asked { PlaceAsked run.now.sheet.bytes.now at step.node step.index step.share }
     requires node_fits { NodeFits run.now.sheet.bytes.now nodes.now × NodeFits run.now.sheet.bytes.now labels.now }
-    ensures { (result ≡ label_given (instance_of run.now.sheet.bytes.now) nodes.now labels.now turned step.node (at + step.index) step.share) × (unsigned_abs result ≤ 2 ^ 41) }
+    ensures { (result ≡ label_given (instance_of run.now.sheet.bytes.now) nodes.now labels.now (to_node flow) step.node (at + step.index) step.share) × (unsigned_abs result ≤ 2 ^ 41) }
 {
-    if turned {
-        minus(0, label_amount(run, labels, at + step.index, step.share))
-    } else {
-        node_amount(&run.sheet, nodes, at, step)
+    match flow {
+        Flow::FromNode => node_amount(&run.sheet, nodes, at, step),
+        Flow::ToNode => minus(0, label_amount(run, labels, at + step.index, step.share)),
     }
 }

@@ -6,7 +6,7 @@ ghost use Rattle.rules.specs.Run.{kind_of, legal_share, legal_edge, legal_positi
 ghost use Rattle.messages.specs.Lent.{NodeFits, EdgeFits};
 ghost use Rattle.messages.specs.LabelMessage.{label_move};
 ghost use Rattle.messages.specs.EdgeRecord.{edge_move};
-ghost use Rattle.messages.specs.Records.{kind_as, head_of, label_taken, edge_taken};
+ghost use Rattle.messages.specs.Records.{to_node, kind_as, head_of, label_taken, edge_taken};
 
 use crate::edge_record::move_edge;
 use crate::label_message::{given, shift_label};
@@ -14,13 +14,18 @@ use crate::limit::Limit;
 use crate::running::Run;
 use instance::{Refusal, Sheet, exclusive};
 
+// Whether a message goes away from its node, or turned round to it.
+#[derive(Clone, Copy, Debug, PartialEq, Eq)]
+pub(crate) enum Flow {
+    FromNode,
+    ToNode,
+}
+
 // A message: between a node and an edge, or a node and a label.
 #[derive(Clone, Copy, Debug, PartialEq, Eq)]
 pub(crate) enum Way {
-    NodeToEdge,
-    EdgeToNode,
-    NodeToLabel,
-    LabelToNode,
+    Edge(Flow),
+    Label(Flow),
 }
 
 // What a record does.
@@ -36,10 +41,10 @@ impl Kind {
         ensures { result ≡ kind_as (kind_of number) }
     {
         match number {
-            1 => Some(Kind::Message(Way::NodeToEdge)),
-            2 => Some(Kind::Message(Way::EdgeToNode)),
-            3 => Some(Kind::Message(Way::NodeToLabel)),
-            4 => Some(Kind::Message(Way::LabelToNode)),
+            1 => Some(Kind::Message(Way::Edge(Flow::FromNode))),
+            2 => Some(Kind::Message(Way::Edge(Flow::ToNode))),
+            3 => Some(Kind::Message(Way::Label(Flow::FromNode))),
+            4 => Some(Kind::Message(Way::Label(Flow::ToNode))),
             5 => Some(Kind::Rounding),
             _ => None,
         }
@@ -115,14 +120,14 @@ pub(crate) fn edge_record(
     limit: Limit,
     nodes: &mut [i64],
     edges: &mut [i64],
-    turned: bool,
+    flow: Flow,
     step: Record,
 ) -> Result<(), Refusal>
     requires { NodeFits sheet.now.bytes.now nodes.old × EdgeFits sheet.now.bytes.now edges.old }
-    ensures { edge_move (refused_in result) nodes.new edges.new ≡ edge_taken (instance_of sheet.now.bytes.now) limit.most nodes.old edges.old turned step.node step.index step.share }
+    ensures { edge_move (refused_in result) nodes.new edges.new ≡ edge_taken (instance_of sheet.now.bytes.now) limit.most nodes.old edges.old (to_node flow) step.node step.index step.share }
 {
     if legal_edge(sheet, step) {
-        move_edge(sheet, limit, nodes, edges, turned, step)
+        move_edge(sheet, limit, nodes, edges, flow, step)
     } else {
         Err(Refusal::NoSuchRecord)
     }
@@ -133,15 +138,15 @@ pub(crate) fn label_record(
     run: &Run,
     nodes: &mut [i64],
     labels: &mut [i64],
-    turned: bool,
+    flow: Flow,
     step: Record,
 ) -> Result<(), Refusal>
     requires { NodeFits run.now.sheet.bytes.now nodes.old × NodeFits run.now.sheet.bytes.now labels.old }
-    ensures { label_move (refused_in result) nodes.new labels.new ≡ label_taken (instance_of run.now.sheet.bytes.now) run.now.limit.most nodes.old labels.old turned step.node step.index step.share }
+    ensures { label_move (refused_in result) nodes.new labels.new ≡ label_taken (instance_of run.now.sheet.bytes.now) run.now.limit.most nodes.old labels.old (to_node flow) step.node step.index step.share }
 {
     if legal_position(&run.sheet, step) {
         let at = run.sheet.starts[step.node];
-        let p = given(run, nodes, labels, turned, at, step);
+        let p = given(run, nodes, labels, flow, at, step);
         shift_label(nodes, labels, at + step.index, p, run.limit)
     } else {
         Err(Refusal::NoSuchRecord)

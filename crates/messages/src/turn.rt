@@ -23,12 +23,9 @@ fn message(
     requires fits { NodeFits run.now.sheet.bytes.now nodes.old × NodeFits run.now.sheet.bytes.now labels.old × EdgeFits run.now.sheet.bytes.now edges.old }
     ensures { (x : List ℕ) → Good run.now.sheet.bytes.now run.now.limit.most (lent nodes.old labels.old edges.old x) → settle (lent nodes.new labels.new edges.new x) 0 (refused_in result) ≡ messaged (instance_of run.now.sheet.bytes.now) run.now.limit.most (lent nodes.old labels.old edges.old x) way step }
 {
-    let sheet = &run.sheet;
     match way {
-        Way::NodeToEdge => edge_record(sheet, run.limit, nodes, edges, false, step),
-        Way::EdgeToNode => edge_record(sheet, run.limit, nodes, edges, true, step),
-        Way::NodeToLabel => label_record(run, nodes, labels, false, step),
-        Way::LabelToNode => label_record(run, nodes, labels, true, step),
+        Way::Edge(flow) => edge_record(&run.sheet, run.limit, nodes, edges, flow, step),
+        Way::Label(flow) => label_record(run, nodes, labels, flow, step),
     }
 }
 

@@ -8,6 +8,7 @@ use Rattle.instance.specs.Sheet.{instance_of}
 use Rattle.instance.specs.Described.{labels_of}
 use Rattle.instance.specs.Refusal.{refused_in}
 use Rattle.messages.specs.EdgeRecord.{edge_move, EdgeLegal}
+use Rattle.messages.specs.Records.{to_node}
 use Rattle.messages.proofs.EdgeRecordLaws.{node_here, edge_here, legal_node, legal_edge_lem, row_ends, table_ends, row_room, table_room, legal_joined, put_back, legal_moved}
 use Rattle.messages.proofs.edge_record.move_edge.Goals as goal
 use Rattle.messages.proofs.edge_record.move_edge.Goals.{After-either-w, After-labels_of-other, Start}
@@ -80,7 +81,7 @@ returns c =
     let t = get_or (x (o p)).tables y.step.index 0 in
     let d = t + length (own p) * length (other p) in
     (λ i. edge_move (refused_in c.move_parts.result) (part_back a e y.nodes.now c.move_parts.new.row (omega arith) i) (part_back t d y.edges.now c.move_parts.new.cells (omega arith) i))
-    ∙ ap (put_back y.nodes.now y.edges.now a e t d) c.move_parts.ensures ∙ legal_moved (x (o p)) (g (o p)) (named (o p)) (own_is p) (other_is p) y.limit.most y.turned
+    ∙ ap (put_back y.nodes.now y.edges.now a e t d) c.move_parts.ensures ∙ legal_moved (x (o p)) (g (o p)) (named (o p)) (own_is p) (other_is p) y.limit.most (to_node y.flow)
 
 pub offset_bounds-sheet-u : goal.offset_bounds-sheet-u
 offset_bounds-sheet-u c = omega (arith, legal_node (x (o c)) (g (o c)))

@@ -1,17 +1,19 @@
 -- `given` meets its contract: the node's amount, or the label's turned round.
-use Rattle.std.proofs.Common.{◌≡◌, ◌+◌, ◌^◌, ◌≤◌, Bool, true, ℤ, pos, ◌-ℤ◌, nat_abs, sym, ap, ◌∙◌, subst, arith}
+use Rattle.std.proofs.Common.{◌≡◌, ◌+◌, ◌^◌, ◌≤◌, true, ℤ, pos, ◌-ℤ◌, nat_abs, sym, ap, ◌∙◌, subst, arith}
 use Rattle.integers.proofs.Bits.{same}
 use Rattle.instance.specs.Instance.{exclusive}
 use Rattle.instance.specs.Sheet.{instance_of}
+use Rattle.messages.specs.declared.records.Flow.{Flow}
 use Rattle.messages.specs.LabelMessage.{label_amount, label_given}
+use Rattle.messages.specs.Records.{to_node}
 use Rattle.messages.proofs.RowLaws.{from_zero, zero_fits, neg_fits}
 use Rattle.messages.proofs.LabelMessageLaws.{place_in, node_fits, label_fits}
 use Rattle.messages.proofs.label_message.given.Goals as goal
 use Rattle.messages.proofs.label_message.given.Goals.{Start}
 
 module _ (q : Start) where
-  abbrev given : Bool → ℤ
-  given t = let a = q.args in label_given (instance_of a.run.now.sheet.bytes.now) a.nodes.now a.labels.now t a.step.node (a.at + a.step.index) a.step.share
+  abbrev given : Flow → ℤ
+  given f = let a = q.args in label_given (instance_of a.run.now.sheet.bytes.now) a.nodes.now a.labels.now (to_node f) a.step.node (a.at + a.step.index) a.step.share
 
   abbrev amount : ℤ
   amount = let a = q.args in label_amount (instance_of a.run.now.sheet.bytes.now) a.labels.now (a.at + a.step.index) a.step.share
@@ -34,14 +36,14 @@ pub minus-requires : goal.minus-requires
 minus-requires c =
     let q = (goal.at.minus-requires c).Start in rw (same c.label_amount.result c.label_amount.type_inv, c.label_amount.ensures) (zero_fits (amount q) (small q))
 
-pub returns-then-turned : goal.returns-then-turned
-returns-then-turned c =
-    let q = (goal.at.returns-then-turned c).Start in let e =
+pub returns-in-ToNode : goal.returns-in-ToNode
+returns-in-ToNode c =
+    let q = (goal.at.returns-in-ToNode c).Start in let e =
     same c.minus.result c.minus.type_inv ∙ c.minus.ensures ∙ ap (λ (z : ℤ). pos 0 -ℤ z) (same c.label_amount.result c.label_amount.type_inv ∙ c.label_amount.ensures) ∙ from_zero (amount q)
-    in (e ∙ ap (given q) (sym c.if-turned.true), subst (λ (z : ℤ). nat_abs z ≤ 2 ^ 41) (sym e) (neg_fits (amount q) (small q)))
+    in (e ∙ ap (given q) (sym c.in-ToNode.is), subst (λ (z : ℤ). nat_abs z ≤ 2 ^ 41) (sym e) (neg_fits (amount q) (small q)))
 
-pub returns-else-turned : goal.returns-else-turned
-returns-else-turned c =
+pub returns-in-FromNode : goal.returns-in-FromNode
+returns-in-FromNode c =
     let a = c.args in
     let e = same c.node_amount.result c.node_amount.type_inv ∙ c.node_amount.ensures in
-    (e ∙ ap (given (goal.at.returns-else-turned c).Start) (sym c.if-turned.false), subst (λ (z : ℤ). nat_abs z ≤ 2 ^ 41) (sym e) (node_fits (instance_of a.run.now.sheet.bytes.now) a.nodes.now c.requires.node_fits.0.range a.step.node (a.at + a.step.index) a.step.share))
+    (e ∙ ap (given (goal.at.returns-in-FromNode c).Start) (sym c.in-FromNode.is), subst (λ (z : ℤ). nat_abs z ≤ 2 ^ 41) (sym e) (node_fits (instance_of a.run.now.sheet.bytes.now) a.nodes.now c.requires.node_fits.0.range a.step.node (a.at + a.step.index) a.step.share))

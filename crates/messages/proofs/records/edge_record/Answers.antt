@@ -2,6 +2,7 @@
 use Rattle.std.proofs.Common.{◌≡◌, true, sym, ◌∙◌}
 use Rattle.instance.specs.Sheet.{instance_of}
 use Rattle.rules.specs.Run.{legal_edge}
+use Rattle.messages.specs.Records.{to_node}
 use Rattle.messages.proofs.RecordLaws.{edge_taken_lem, edge_refused, edge_legal}
 use Rattle.messages.proofs.records.edge_record.Goals as goal
 use Rattle.messages.proofs.records.edge_record.Goals.{Then-legal_edge}
@@ -17,9 +18,9 @@ move_edge-requires c =
 pub returns-then-legal_edge : goal.returns-then-legal_edge
 returns-then-legal_edge c =
     let a = c.args in
-    c.move_edge.ensures ∙ edge_taken_lem (instance_of a.sheet.now.bytes.now) a.limit.most a.nodes.now a.edges.now a.turned a.step.node a.step.index a.step.share (legal (goal.at.returns-then-legal_edge c).Then-legal_edge)
+    c.move_edge.ensures ∙ edge_taken_lem (instance_of a.sheet.now.bytes.now) a.limit.most a.nodes.now a.edges.now (to_node a.flow) a.step.node a.step.index a.step.share (legal (goal.at.returns-then-legal_edge c).Then-legal_edge)
 
 pub returns-else-legal_edge : goal.returns-else-legal_edge
 returns-else-legal_edge c =
     let a = c.args in
-    edge_refused (instance_of a.sheet.now.bytes.now) a.limit.most a.nodes.now a.edges.now a.turned a.step.node a.step.index a.step.share (sym c.legal_edge.ensures ∙ c.if-legal_edge.false)
+    edge_refused (instance_of a.sheet.now.bytes.now) a.limit.most a.nodes.now a.edges.now (to_node a.flow) a.step.node a.step.index a.step.share (sym c.legal_edge.ensures ∙ c.if-legal_edge.false)

@@ -9,6 +9,7 @@ use Rattle.rules.specs.Run.{legal_position}
 use Rattle.rules.proofs.Run.{legal_position_is}
 use Rattle.messages.specs.declared.records.Record.{Record}
 use Rattle.messages.specs.LabelMessage.{label_moved, label_given, PlaceAsked}
+use Rattle.messages.specs.Records.{to_node}
 use Rattle.messages.proofs.LabelMessageLaws.{place_in}
 use Rattle.messages.proofs.RecordLaws.{label_taken_lem, label_refused, place_asked}
 use Rattle.messages.proofs.records.label_record.Goals as goal
@@ -70,10 +71,10 @@ returns-then-legal_position c =
     let k = a.run.now.limit.most in
     c.shift_label.ensures
     ∙ ap (label_moved k a.nodes.now a.labels.now (at p + (r p).index)) (same c.given-p.result c.given-p.type_inv ∙ c.given-p.ensures.0)
-    ∙ ap (λ (i : ℕ). label_moved k a.nodes.now a.labels.now (i + (r p).index) (label_given (I p) a.nodes.now a.labels.now a.turned (r p).node (i + (r p).index) (r p).share)) (begins p)
-    ∙ label_taken_lem (I p) k a.nodes.now a.labels.now a.turned (r p).node (r p).index (r p).share (legal p)
+    ∙ ap (λ (i : ℕ). label_moved k a.nodes.now a.labels.now (i + (r p).index) (label_given (I p) a.nodes.now a.labels.now (to_node a.flow) (r p).node (i + (r p).index) (r p).share)) (begins p)
+    ∙ label_taken_lem (I p) k a.nodes.now a.labels.now (to_node a.flow) (r p).node (r p).index (r p).share (legal p)
 
 pub returns-else-legal_position : goal.returns-else-legal_position
 returns-else-legal_position c =
     let a = c.args in
-    label_refused (instance_of a.run.now.sheet.bytes.now) a.run.now.limit.most a.nodes.now a.labels.now a.turned a.step.node a.step.index a.step.share (sym c.legal_position.ensures ∙ c.if-legal_position.false)
+    label_refused (instance_of a.run.now.sheet.bytes.now) a.run.now.limit.most a.nodes.now a.labels.now (to_node a.flow) a.step.node a.step.index a.step.share (sym c.legal_position.ensures ∙ c.if-legal_position.false)
