@@ -24,7 +24,7 @@ module _ (s : State) where
   good = good_lent bytes (limit_in s) (buffers_in s) s.good
 
   all_fit : NodeFits bytes s.nodes.now × NodeFits bytes s.labels.now × EdgeFits bytes s.edges.now
-  all_fit = fit good s.run.now.limited
+  all_fit = fit good s.run.now.limit.few
 
   pub nodes_fit : NodeFits bytes s.nodes.now
   nodes_fit = all_fit.0

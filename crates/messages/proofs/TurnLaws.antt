@@ -26,7 +26,7 @@ use Rattle.messages.specs.EdgeRecord.{EdgeMove, edge_move, edge_moved}
 use Rattle.messages.specs.RoundRecord.{IncumbentFits}
 use Rattle.messages.specs.declared.records.Flow.{Flow}
 use Rattle.messages.specs.declared.records.Flow.TheVariants.{FromNode, ToNode}
-use Rattle.messages.specs.Records.{turned, edge_message, label_message, label_taken, edge_taken}
+use Rattle.messages.specs.Records.{to_node, edge_message, label_message, label_taken, edge_taken}
 use Rattle.messages.specs.Turn.{Good}
 use Rattle.rules.proofs.Opening.{lengths_are}
 use Rattle.messages.proofs.LentLaws.{LentWell, lent_good, lent_well, fit_of}
@@ -124,7 +124,7 @@ module _ {s : List ℕ} {limit : ℕ} {b : Buffers} (g : Good s limit b) where
       edge_either (legal_edge I u e r) (checked I limit (shift (deltas I (costs_of b) (cond turned edge_to_node node_to_edge) u e r) b)) (edge_moved I b.nodes b.edges limit turned u e r)
       (λ t. let (x, y, z, w) = legal_edge_is I u e r t in edge_settled_lem I limit g.sound.sized g.ranged y z turned r)
 
-  pub edge_turn : (flow : Flow) (u e r : ℕ) → settled b (effect I limit b (message (edge_message flow)) u e r) ≡ edge_settled b (edge_taken I limit b.nodes b.edges (turned flow) u e r)
+  pub edge_turn : (flow : Flow) (u e r : ℕ) → settled b (effect I limit b (message (edge_message flow)) u e r) ≡ edge_settled b (edge_taken I limit b.nodes b.edges (to_node flow) u e r)
   unfolding effect legal_message
   edge_turn FromNode u e r = edge_kind false u e r
   edge_turn ToNode u e r = edge_kind true u e r
@@ -144,7 +144,7 @@ module _ {s : List ℕ} {limit : ℕ} {b : Buffers} (g : Good s limit b) where
       moved true h = label_settled_lem (first I u + k) (label_given I b.nodes b.labels true u (first I u + k) r) h
       moved false h = label_settled_lem (first I u + k) (label_given I b.nodes b.labels false u (first I u + k) r) h
 
-  pub label_turn : (flow : Flow) (u k r : ℕ) → settled b (effect I limit b (message (label_message flow)) u k r) ≡ label_settled (label_taken I limit b.nodes b.labels (turned flow) u k r)
+  pub label_turn : (flow : Flow) (u k r : ℕ) → settled b (effect I limit b (message (label_message flow)) u k r) ≡ label_settled (label_taken I limit b.nodes b.labels (to_node flow) u k r)
   unfolding effect legal_message
   label_turn FromNode u k r = label_kind false u k r
   label_turn ToNode u k r = label_kind true u k r

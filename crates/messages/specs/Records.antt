@@ -13,9 +13,9 @@ use Rattle.messages.specs.LabelMessage.{Moved, label_move, label_moved, label_gi
 use Rattle.messages.specs.EdgeRecord.{EdgeMove, edge_move, edge_moved}
 
 -- whether a message is turned round: to the node
-abbrev pub turned : Flow → Bool
-turned FromNode = false
-turned ToNode = true
+abbrev pub to_node : Flow → Bool
+to_node FromNode = false
+to_node ToNode = true
 
 -- the rules' messages, of an edge and of a label
 abbrev pub edge_message : Flow → rules.Message

@@ -14,7 +14,7 @@ abbrev pub instance_in : State → Instance
 instance_in s = instance_of s.run.now.sheet.bytes.now
 
 abbrev pub limit_in : State → ℕ
-limit_in s = s.run.now.limit
+limit_in s = s.run.now.limit.most
 
 abbrev pub buffers_in : State → Buffers
 buffers_in s = lent s.nodes.now s.labels.now s.edges.now s.incumbent.now

@@ -5,11 +5,11 @@ ghost use Rattle.integers.specs.Sum.{Within};
 ghost use Rattle.integers.specs.Places.{every, tabulate};
 ghost use Rattle.integers.specs.Checks.{within};
 ghost use Rattle.integers.proofs.Ranges.{shifted};
-ghost use Rattle.std.specs.Int.{w64};
 ghost use Rattle.rules.specs.Calls.{cost_limit};
 ghost use Rattle.messages.specs.EdgeMessage.{node_amounts, edge_amounts, taken_of, moved_cells, moved_line, Shape, Ends, over, line_at, left_of, unbounded, least_at, turned_least};
 
 use crate::clash::{clash, mask_of};
+use crate::limit::Limit;
 use crate::rows::{
     OUT, UNBOUNDED, all_half, excess, least, least_but, least_of, less_at, share_of,
 };
@@ -158,19 +158,19 @@ pub(crate) fn negated(amounts: &[i64; 16]) -> [i64; 16]
 }
 
 // At least `OUT` if a cost that receives an amount passes the limit.
-fn excess_with(cost: i64, amount: i64, limit: u64) -> u64
-    requires { (unsigned_abs cost ≤ cost_limit) × (unsigned_abs amount ≤ 2 ^ 41) × (limit ≤ cost_limit) }
-    ensures { nat_lt result (2 ^ 63) ≡ within limit (cost +ℤ amount) }
+fn excess_with(cost: i64, amount: i64, limit: Limit) -> u64
+    requires { (unsigned_abs cost ≤ cost_limit) × (unsigned_abs amount ≤ 2 ^ 41) }
+    ensures { nat_lt result (2 ^ 63) ≡ within limit.most (cost +ℤ amount) }
 {
     excess(cost + amount, limit)
 }
 
 // At least `OUT` if a cell of the k-th row of a table that receives its amount does: by rows one amount serves all, by columns each has its own.
-fn excess_line(line: &[i64], k: usize, by_row: bool, amounts: &[i64; 16], limit: u64) -> u64
+fn excess_line(line: &[i64], k: usize, by_row: bool, amounts: &[i64; 16], limit: Limit) -> u64
     requires line_len_bound { (length line.now ≤ 16) × (k < 16) }
     requires within { Within cost_limit line.now }
-    requires within_2 { Within (2 ^ 41) amounts.now × (limit ≤ cost_limit) }
-    ensures { nat_lt result (2 ^ 63) ≡ every (within limit) (moved_line by_row k amounts.now line.now) }
+    requires within_2 { Within (2 ^ 41) amounts.now }
+    ensures { nat_lt result (2 ^ 63) ≡ every (within limit.most) (moved_line by_row k amounts.now line.now) }
 {
     let mut all = 0;
     for (j, cost) in line.iter().enumerate() {
@@ -181,11 +181,11 @@ fn excess_line(line: &[i64], k: usize, by_row: bool, amounts: &[i64; 16], limit:
 }
 
 // At least `OUT` if one of some costs that receive each its amount does.
-pub(crate) fn excess_each(line: &[i64], amounts: &[i64; 16], limit: u64) -> u64
+pub(crate) fn excess_each(line: &[i64], amounts: &[i64; 16], limit: Limit) -> u64
     requires line_len_bound { length line.now ≤ 16 }
     requires within { Within cost_limit line.now }
-    requires within_2 { Within (2 ^ 41) amounts.now × (limit ≤ cost_limit) }
-    ensures { nat_lt result (2 ^ 63) ≡ every (within limit) (shifted (λ k. get_or amounts.now k (pos 0)) line.now) }
+    requires within_2 { Within (2 ^ 41) amounts.now }
+    ensures { nat_lt result (2 ^ 63) ≡ every (within limit.most) (shifted (λ k. get_or amounts.now k (pos 0)) line.now) }
 {
     excess_line(line, 0, false, amounts, limit)
 }
@@ -197,12 +197,12 @@ fn each_cell_fits(
     height: usize,
     by_row: bool,
     amounts: &[i64; 16],
-    limit: u64,
+    limit: Limit,
 ) -> bool
     requires shape { Shape width height cells.now }
     requires within { Within cost_limit cells.now }
-    requires within_2 { Within (2 ^ 41) amounts.now × (limit ≤ cost_limit) }
-    ensures { result ≡ every (within limit) (moved_cells by_row width amounts.now cells.now) }
+    requires within_2 { Within (2 ^ 41) amounts.now }
+    ensures { result ≡ every (within limit.most) (moved_cells by_row width amounts.now cells.now) }
 {
     let mut all = 0;
     // Kept: a row by its place, as where it is moved (`move_cells`), so that both share one law of a row.
@@ -221,15 +221,15 @@ pub(crate) fn cells_fit(
     height: usize,
     by_row: bool,
     amounts: &[i64; 16],
-    limit: u64,
+    limit: Limit,
 ) -> bool
     requires shape { Shape width height cells.now }
     requires within { Within cost_limit cells.now }
-    requires within_2 { Within (2 ^ 41) amounts.now × (limit ≤ cost_limit) }
-    ensures { result ≡ every (within limit) (moved_cells by_row width amounts.now cells.now) }
+    requires within_2 { Within (2 ^ 41) amounts.now }
+    ensures { result ≡ every (within limit.most) (moved_cells by_row width amounts.now cells.now) }
 {
-    if all_half(amounts, limit / 2) {
-        if all_half(cells, limit / 2) {
+    if all_half(amounts, limit) {
+        if all_half(cells, limit) {
             return true;
         }
     }

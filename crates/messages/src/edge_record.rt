@@ -5,12 +5,13 @@ ghost use Rattle.instance.specs.Refusal.{refused_in};
 ghost use Rattle.instance.specs.Sheet.{instance_of};
 ghost use Rattle.rules.specs.Calls.{cost_limit};
 ghost use Rattle.messages.specs.EdgeMessage.{taken_of, Shape, width_of};
-ghost use Rattle.messages.specs.Records.{turned};
 ghost use Rattle.messages.specs.EdgeRecord.{edge_move, edge_moved, EdgeLegal, Joined, amounts_of, fit_parts, parts_moved};
+ghost use Rattle.messages.specs.Records.{to_node};
 
 use crate::edge_message::{
     cells_fit, edge_amounts, either, excess_each, move_cells, negated, node_amounts, raise_each,
 };
+use crate::limit::Limit;
 use crate::records::{Flow, Record};
 use crate::rows::OUT;
 use instance::{Refusal, Sheet};
@@ -27,7 +28,7 @@ fn amounts_of(
 ) -> [i64; 16]
     requires joined { Joined row.now cells.now by_row own.now other.now }
     requires le_share { 1 ≤ share }
-    ensures { result ≡ amounts_of (turned flow) by_row own.now other.now row.now cells.now share }
+    ensures { result ≡ amounts_of (to_node flow) by_row own.now other.now row.now cells.now share }
 {
     match flow {
         Flow::FromNode => node_amounts(row, share),
@@ -44,11 +45,11 @@ fn both_fit(
     by_row: bool,
     amounts: &[i64; 16],
     taken: &[i64; 16],
-    limit: u64,
+    limit: Limit,
 ) -> bool
     requires row_len_bound { (length row.now ≤ 16) × Shape width height cells.now × Within cost_limit row.now × Within cost_limit cells.now }
-    requires within { Within (2 ^ 41) amounts.now × (taken.now ≡ taken_of amounts.now) × (limit ≤ cost_limit) }
-    ensures { result ≡ fit_parts limit amounts.now by_row width row.now cells.now }
+    requires within { Within (2 ^ 41) amounts.now × (taken.now ≡ taken_of amounts.now) }
+    ensures { result ≡ fit_parts limit.most amounts.now by_row width row.now cells.now }
 {
     if excess_each(row, taken, limit) < OUT {
         cells_fit(cells, width, height, by_row, amounts, limit)
@@ -66,11 +67,11 @@ fn move_parts(
     by_row: bool,
     flow: Flow,
     share: u8,
-    limit: u64,
+    limit: Limit,
 ) -> Result<(), Refusal>
     requires joined { Joined row.old cells.old by_row own.now other.now }
-    requires le_share { (1 ≤ share) × (limit ≤ cost_limit) }
-    ensures { edge_move (refused_in result) row.new cells.new ≡ parts_moved limit (amounts_of (turned flow) by_row own.now other.now row.old cells.old share) row.old cells.old by_row (width_of by_row own.now other.now) }
+    requires le_share { 1 ≤ share }
+    ensures { edge_move (refused_in result) row.new cells.new ≡ parts_moved limit.most (amounts_of (to_node flow) by_row own.now other.now row.old cells.old share) row.old cells.old by_row (width_of by_row own.now other.now) }
 {
     let width = either(by_row, other.len(), own.len());
     let height = either(by_row, own.len(), other.len());
@@ -88,15 +89,14 @@ fn move_parts(
 // A record of kind 1 between its node and its edge, or turned round of kind 2.
 pub(crate) fn move_edge(
     sheet: &Sheet,
-    limit: u64,
+    limit: Limit,
     nodes: &mut [i64],
     edges: &mut [i64],
     flow: Flow,
     step: Record,
 ) -> Result<(), Refusal>
-    requires limited { limit ≤ cost_limit }
-    requires legal { EdgeLegal sheet.now.bytes.now nodes.old edges.old step.node step.index step.share }
-    ensures { edge_move (refused_in result) nodes.new edges.new ≡ edge_moved (instance_of sheet.now.bytes.now) nodes.old edges.old limit (turned flow) step.node step.index step.share }
+    requires { EdgeLegal sheet.now.bytes.now nodes.old edges.old step.node step.index step.share }
+    ensures { edge_move (refused_in result) nodes.new edges.new ≡ edge_moved (instance_of sheet.now.bytes.now) nodes.old edges.old limit.most (to_node flow) step.node step.index step.share }
 {
     let u = step.node;
     let e = step.index;

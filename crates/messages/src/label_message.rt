@@ -7,9 +7,10 @@ ghost use Rattle.instance.specs.Refusal.{refused_in};
 ghost use Rattle.instance.specs.Instance.{exclusive, first, node_cells};
 ghost use Rattle.rules.specs.Calls.{cost_limit};
 ghost use Rattle.messages.specs.LabelMessage.{label_moved, label_move, node_amount, label_amount, label_given, PlaceAsked};
-ghost use Rattle.messages.specs.Records.{turned};
+ghost use Rattle.messages.specs.Records.{to_node};
 ghost use Rattle.messages.specs.State.{instance_in};
 
+use crate::limit::Limit;
 use crate::records::{Flow, Record};
 use crate::rows::{amount_of, in_range, minus, plus, share_of};
 use crate::state::State;
@@ -21,13 +22,13 @@ pub(crate) fn shift_label(
     labels: &mut [i64],
     i: usize,
     p: i64,
-    limit: u64,
+    limit: Limit,
 ) -> Result<(), Refusal>
     requires i_in_bounds { (i < length nodes.old) × (i < length labels.old) }
     requires within { Within cost_limit nodes.old }
     requires within_2 { Within cost_limit labels.old }
     requires p_bound { unsigned_abs p ≤ 2 ^ 41 }
-    ensures { label_move (refused_in result) nodes.new labels.new ≡ label_moved limit nodes.old labels.old i p }
+    ensures { label_move (refused_in result) nodes.new labels.new ≡ label_moved limit.most nodes.old labels.old i p }
 {
     let node = minus(nodes[i], p);
     let label = plus(labels[i], p);
@@ -93,7 +94,7 @@ impl State<'_> {
     // What goes from the node cost to the label cost at the record's place.
     pub(crate) fn given(&self, flow: Flow, place: usize, step: Record) -> i64
         requires { PlaceAsked (instance_in self.now) step.node step.index step.share × (place ≡ first (instance_in self.now) step.node + step.index) }
-        ensures { (result ≡ label_given (instance_in self.now) self.now.nodes.now self.now.labels.now (turned flow) step.node place step.share) × (unsigned_abs result ≤ 2 ^ 41) }
+        ensures { (result ≡ label_given (instance_in self.now) self.now.nodes.now self.now.labels.now (to_node flow) step.node place step.share) × (unsigned_abs result ≤ 2 ^ 41) }
     {
         match flow {
             Flow::FromNode => self.node_amount(step),

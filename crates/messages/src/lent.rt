@@ -1,13 +1,14 @@
 // What is lent: the four buffers, and the refusals of their lengths, of the costs and of the incumbent.
-ghost use Rattle.std.specs.Prelude.{◌≡◌, ◌≤◌, ◌&&◌, ◌==◌, length};
+ghost use Rattle.std.specs.Prelude.{◌≡◌, ◌&&◌, ◌==◌, length};
 ghost use Rattle.integers.specs.Places.{every};
 ghost use Rattle.integers.specs.Checks.{within};
 ghost use Rattle.instance.specs.Refusal.{refused_in};
 ghost use Rattle.instance.specs.Sheet.{instance_of};
-ghost use Rattle.rules.specs.Calls.{cost_limit, incumbent_ok, lent_refusal};
+ghost use Rattle.rules.specs.Calls.{incumbent_ok, lent_refusal};
 ghost use Rattle.messages.specs.Lent.{lent_of};
 
 use crate::incumbent::{all_none, is_matching};
+use crate::limit::Limit;
 use crate::rows::all_in_range;
 use instance::{Refusal, Sheet};
 
@@ -31,9 +32,8 @@ pub(crate) fn lengths_agree(sheet: &Sheet, lent: Lent) -> bool
 }
 
 // Whether each lent cost lies within the limit.
-fn costs_ok(lent: Lent, limit: u64) -> bool
-    requires { limit ≤ cost_limit }
-    ensures { result ≡ (every (within limit) lent.entry.nodes.now && every (within limit) lent.entry.labels.now && every (within limit) lent.entry.edges.now) }
+fn costs_ok(lent: Lent, limit: Limit) -> bool
+    ensures { result ≡ (every (within limit.most) lent.entry.nodes.now && every (within limit.most) lent.entry.labels.now && every (within limit.most) lent.entry.edges.now) }
 {
     all_in_range(lent.nodes, limit)
         && all_in_range(lent.labels, limit)
@@ -49,9 +49,8 @@ fn incumbent_ok(sheet: &Sheet, x: &[u8]) -> bool
 }
 
 // The first refusal of what is lent with a sheet that was read.
-pub(crate) fn check_lent(sheet: &Sheet, limit: u64, lent: Lent) -> Result<(), Refusal>
-    requires { limit ≤ cost_limit }
-    ensures { refused_in result ≡ lent_refusal sheet.now.bytes.now limit (lent_of lent.entry) }
+pub(crate) fn check_lent(sheet: &Sheet, limit: Limit, lent: Lent) -> Result<(), Refusal>
+    ensures { refused_in result ≡ lent_refusal sheet.now.bytes.now limit.most (lent_of lent.entry) }
 {
     if !lengths_agree(sheet, lent) {
         return Err(Refusal::BufferLength);

@@ -11,6 +11,7 @@ mod filling;
 mod incumbent;
 mod label_message;
 mod lent;
+mod limit;
 mod list;
 mod opening;
 mod records;

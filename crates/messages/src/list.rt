@@ -9,7 +9,8 @@ ghost use Rattle.messages.specs.Answers.{ran_as};
 
 use crate::answers::Answer;
 use crate::lent::{Lent, check_lent};
-use crate::running::{COST_LIMIT, Run};
+use crate::limit::{COST_LIMIT, Limit};
+use crate::running::Run;
 use crate::state::State;
 use instance::{Refusal, Sheet};
 
@@ -44,14 +45,8 @@ impl State<'_> {
 }
 
 // What a run goes by, or why it is refused before its first record.
-fn start<'a>(
-    sheet: &'a [u8],
-    limit: u64,
-    records: &[u8],
-    lent: Lent,
-) -> Result<Run<'a>, Refusal>
-    requires { limit ≤ cost_limit }
-    ensures refusal { refused_in result ≡ run_refusal sheet.now limit (lent_of lent.entry) records.now }
+fn start<'a>(sheet: &'a [u8], limit: Limit, records: &[u8], lent: Lent) -> Result<Run<'a>, Refusal>
+    ensures refusal { refused_in result ≡ run_refusal sheet.now limit.most (lent_of lent.entry) records.now }
     ensures same { IfOk result (λ r. (r.sheet.bytes ≡ sheet.entry) × (r.limit ≡ limit)) }
 {
     let sheet = Sheet::read(sheet)?;

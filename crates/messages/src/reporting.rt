@@ -9,8 +9,8 @@ use crate::bound::lower_bound;
 use crate::checked::Checked;
 use crate::incumbent::{none_kept, price};
 use crate::lent::{Lent, check_lent};
+use crate::limit::COST_LIMIT;
 use crate::rows::minus;
-use crate::running::COST_LIMIT;
 use instance::{Refusal, Sheet};
 
 // A bound beside the cost of what is kept: no bound may exceed it.

@@ -1,13 +1,14 @@
 // Rows of costs: the least of a row, a cost's least rival, shares of a distance, and whether costs lie within the limit.
-ghost use Rattle.std.specs.Prelude.{◌≡◌, ◌*◌, ◌^◌, ◌<◌, ◌≤◌, true, length, pos, ◌+ℤ◌, ◌-ℤ◌, FitsSigned, nat_lt, slice_index_or, unsigned_abs};
+ghost use Rattle.std.specs.Prelude.{◌≡◌, ◌*◌, ◌^◌, ◌/◌, ◌<◌, ◌≤◌, true, length, pos, ◌+ℤ◌, ◌-ℤ◌, FitsSigned, nat_lt, slice_index_or, unsigned_abs};
 ghost use Rattle.std.specs.Int.{w64};
-ghost use Rattle.std.proofs.Common.{of_z};
 ghost use Rattle.integers.specs.Least.{min_ℤ, least_from, least_of, without};
 ghost use Rattle.integers.specs.Share.{nearest, share, amount};
 ghost use Rattle.integers.specs.Sum.{Within};
 ghost use Rattle.integers.specs.Places.{every};
 ghost use Rattle.integers.specs.Checks.{within};
 ghost use Rattle.rules.specs.Calls.{cost_limit};
+
+use crate::limit::Limit;
 
 // A sum that fits.
 // Kept, with the difference: as a call it asks for its range once; written out, each reading of it would ask again.
@@ -125,28 +126,26 @@ pub(crate) fn share_of(cost: i64, low: i64, r: u8) -> i64
 }
 
 // Whether a cost lies within the limit. The smallest i64 is no special case.
-pub(crate) fn in_range(cost: i64, limit: u64) -> bool
-    ensures { result ≡ within limit cost }
+pub(crate) fn in_range(cost: i64, limit: Limit) -> bool
+    ensures { result ≡ within limit.most cost }
 {
-    cost.unsigned_abs() <= limit
+    cost.unsigned_abs() <= limit.most
 }
 
 // From here on the highest bit is set.
 pub(crate) const OUT: u64 = 0x8000_0000_0000_0000;
 
 // At least `OUT` if a cost passes the limit. Joined by `|`, many costs take one test.
-pub(crate) fn excess(cost: i64, limit: u64) -> u64
-    requires { limit ≤ cost_limit }
-    ensures { nat_lt result (2 ^ 63) ≡ within limit cost }
+pub(crate) fn excess(cost: i64, limit: Limit) -> u64
+    ensures { nat_lt result (2 ^ 63) ≡ within limit.most cost }
 {
     let bits = cost.cast_unsigned();
-    bits.wrapping_add(limit) | limit.wrapping_sub(bits)
+    bits.wrapping_add(limit.most) | limit.most.wrapping_sub(bits)
 }
 
 // Whether each cost lies within the limit. It does not stop at the first that does not, so that several are tested at a time.
-pub(crate) fn all_in_range(costs: &[i64], limit: u64) -> bool
-    requires { limit ≤ cost_limit }
-    ensures { result ≡ every (within limit) costs.now }
+pub(crate) fn all_in_range(costs: &[i64], limit: Limit) -> bool
+    ensures { result ≡ every (within limit.most) costs.now }
 {
     let mut all = 0;
     for cost in costs {
@@ -155,24 +154,23 @@ pub(crate) fn all_in_range(costs: &[i64], limit: u64) -> bool
     all < OUT
 }
 
-// Below twice `half` only if a cost lies within `half`.
-fn raised(cost: i64, half: u64) -> u64
-    requires { half ≤ cost_limit }
-    ensures { result < 2 * half → unsigned_abs cost ≤ half }
+// Below twice a limit only if a cost lies within it.
+fn raised(cost: i64, limit: Limit) -> u64
+    ensures { result < 2 * limit.most → unsigned_abs cost ≤ limit.most }
 {
-    cost.cast_unsigned().wrapping_add(half)
+    cost.cast_unsigned().wrapping_add(limit.most)
 }
 
-// A quick test, which may fail for costs within `half` as well: if it does not, each cost is, so that two add up to no more than twice that.
-pub(crate) fn all_half(costs: &[i64], half: u64) -> bool
-    requires { half ≤ cost_limit }
-    ensures { result ≡ true → Within half costs.now }
+// A quick test, which may fail for costs within half the limit as well: if it does not, each cost is, so that two add up to no more than the limit.
+pub(crate) fn all_half(costs: &[i64], limit: Limit) -> bool
+    ensures { result ≡ true → Within (limit.most / 2) costs.now }
 {
+    let half = limit.half();
     let mut all = 0;
     for cost in costs {
         all = all | raised(*cost, half);
     }
-    all < 2 * half
+    all < 2 * half.most
 }
 
 // What the cost at `k` gives against the others of its row: a share of its distance from the least of them, and 0 with no other.

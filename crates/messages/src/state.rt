@@ -14,5 +14,5 @@ pub(crate) struct State<'a> {
     pub labels: &'a mut [i64],
     pub edges: &'a mut [i64],
     pub incumbent: &'a mut [u8],
-    ghost good: { lent_refusal run.now.sheet.bytes.now run.now.limit (lent nodes.now labels.now edges.now incumbent.now) ≡ 0 },
+    ghost good: { lent_refusal run.now.sheet.bytes.now run.now.limit.most (lent nodes.now labels.now edges.now incumbent.now) ≡ 0 },
 }

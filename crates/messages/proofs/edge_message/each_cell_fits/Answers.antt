@@ -23,11 +23,11 @@ pub loop-k-preserved : goal.loop-k-preserved
 loop-k-preserved c =
     joining_more c.excess_line-all.result c.loop-k.invariant (omega arith)
     (c.excess_line-all.ensures
-    ∙ ap (λ (m : List ℤ). every (within c.args.limit) (moved_line c.args.by_row c.loop-k.k c.args.amounts.now m)) (row_part c.requires.shape c.loop-k.k refl))
+    ∙ ap (λ (m : List ℤ). every (within c.args.limit.most) (moved_line c.args.by_row c.loop-k.k c.args.amounts.now m)) (row_part c.requires.shape c.loop-k.k refl))
 
 pub returns : goal.returns
 returns c =
-    joining_all c.loop-k.invariant (omega arith) ∙ sym (lines_fit c.requires.shape (within c.args.limit) c.args.by_row c.args.amounts.now)
+    joining_all c.loop-k.invariant (omega arith) ∙ sym (lines_fit c.requires.shape (within c.args.limit.most) c.args.by_row c.args.amounts.now)
 
 pub loop-k-init : goal.loop-k-init
 loop-k-init c = joining_none _ _

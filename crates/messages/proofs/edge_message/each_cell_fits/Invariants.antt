@@ -8,4 +8,4 @@ use Rattle.messages.proofs.ExcessLaws.{Joining}
 use Rattle.messages.proofs.edge_message.each_cell_fits.Given as goal
 
 abbrev pub invariant-loop-k : goal.invariant-loop-k
-invariant-loop-k l = Joining (λ r. every (within l.limit) (moved_line l.by_row r l.amounts (part l.cells (r * l.width) l.width))) l.height l.k l.all
+invariant-loop-k l = Joining (λ r. every (within l.limit.most) (moved_line l.by_row r l.amounts (part l.cells (r * l.width) l.width))) l.height l.k l.all

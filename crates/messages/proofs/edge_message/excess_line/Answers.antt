@@ -13,9 +13,9 @@ loop-j-preserved c =
     let i = c.either.result in
     joining_more c.excess_with-all.result c.loop-j.invariant (omega arith)
     (c.excess_with-all.ensures
-    ∙ ap₂ (λ (x y : ℤ). within c.args.limit (x +ℤ y)) (to_z-of_z {w = w64} {z = get_or c.args.line.now c.loop-j.j (pos 0)} (search rules))
+    ∙ ap₂ (λ (x y : ℤ). within c.args.limit.most (x +ℤ y)) (to_z-of_z {w = w64} {z = get_or c.args.line.now c.loop-j.j (pos 0)} (search rules))
     (to_z-of_z {w = w64} {z = get_or v i (pos 0)} (search rules) ∙ ap (λ (i : ℕ). get_or v i (pos 0)) c.either.ensures))
 
 pub returns : goal.returns
 returns c =
-    let x = c.args in joining_shifted x.limit (λ j. get_or x.amounts.now (cond x.by_row x.k j) (pos 0)) x.line.now c.loop-j.invariant (omega arith)
+    let x = c.args in joining_shifted x.limit.most (λ j. get_or x.amounts.now (cond x.by_row x.k j) (pos 0)) x.line.now c.loop-j.invariant (omega arith)

@@ -8,4 +8,4 @@ pub overflow_add-cost : goal.overflow_add-cost
 overflow_add-cost c = let r = c.requires in sum_fits c.args.cost c.args.amount r.0 r.1
 
 pub returns : goal.returns
-returns c = let r = c.requires in c.excess.ensures ∙ ap (within c.args.limit) (sum_is c.args.cost c.args.amount r.0 r.1)
+returns c = let r = c.requires in c.excess.ensures ∙ ap (within c.args.limit.most) (sum_is c.args.cost c.args.amount r.0 r.1)

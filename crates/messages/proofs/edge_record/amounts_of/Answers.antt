@@ -1,15 +1,17 @@
 -- `amounts_of` meets its contract: of the row, or turned round of the table.
-use Rattle.std.proofs.Common.{Bool, List, ℤ, sym, ap, ◌∙◌}
+use Rattle.std.proofs.Common.{List, ℤ, sym, ap, ◌∙◌}
+use Rattle.messages.specs.declared.records.Flow.{Flow}
 use Rattle.messages.specs.EdgeRecord.{amounts_of}
+use Rattle.messages.specs.Records.{to_node}
 use Rattle.messages.proofs.edge_record.amounts_of.Goals as goal
 use Rattle.messages.proofs.edge_record.amounts_of.Goals.{Start}
 
--- the answer turned round, or not
-abbrev told : Start → Bool → List ℤ
-told q b = let x = q.args in amounts_of b x.by_row x.own.now x.other.now x.row.now x.cells.now x.share
+-- the answer, one way or the other
+abbrev told : Start → Flow → List ℤ
+told q f = let x = q.args in amounts_of (to_node f) x.by_row x.own.now x.other.now x.row.now x.cells.now x.share
 
-pub returns-then-turned : goal.returns-then-turned
-returns-then-turned c = c.edge_amounts.ensures ∙ ap (told (goal.at.returns-then-turned c).Start) (sym c.if-turned.true)
+pub returns-in-FromNode : goal.returns-in-FromNode
+returns-in-FromNode c = c.node_amounts.ensures ∙ ap (told (goal.at.returns-in-FromNode c).Start) (sym c.in-FromNode.is)
 
-pub returns-else-turned : goal.returns-else-turned
-returns-else-turned c = c.node_amounts.ensures ∙ ap (told (goal.at.returns-else-turned c).Start) (sym c.if-turned.false)
+pub returns-in-ToNode : goal.returns-in-ToNode
+returns-in-ToNode c = c.edge_amounts.ensures ∙ ap (told (goal.at.returns-in-ToNode c).Start) (sym c.in-ToNode.is)

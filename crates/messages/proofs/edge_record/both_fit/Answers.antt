@@ -10,21 +10,20 @@ use Rattle.messages.proofs.edge_record.both_fit.Goals.{After-excess_each, Start}
 
 pub excess_each-requires : goal.excess_each-requires
 excess_each-requires c =
-    let (_, e, m) = c.requires.within in
-    record { line_len_bound = c.requires.row_len_bound.0; within = c.requires.row_len_bound.2; within_2 = (rw e (taken_within c.args.amounts.now c.requires.within.0), m) }
+    record { line_len_bound = c.requires.row_len_bound.0; within = c.requires.row_len_bound.2; within_2 = rw c.requires.within.1 (taken_within c.args.amounts.now c.requires.within.0) }
 
 -- the row's test, and what is answered with the table's
 module _ (c : After-excess_each) where
   abbrev q : Start
   q = (goal.at.After-excess_each c).Start
 
-  row_told : ltb c.excess_each.result (2 ^ 63) ≡ every (within q.args.limit) (moved_row q.args.amounts.now q.args.row.now)
+  row_told : ltb c.excess_each.result (2 ^ 63) ≡ every (within q.args.limit.most) (moved_row q.args.amounts.now q.args.row.now)
   row_told =
-      let t = every (within q.args.limit) in
+      let t = every (within q.args.limit.most) in
       c.excess_each.ensures ∙ ap (λ (l : List ℤ). t (shifted (λ k. get_or l k (pos 0)) q.args.row.now)) q.requires.within.1 ∙ ap t (taken_row q.args.amounts.now q.args.row.now q.requires.row_len_bound.0)
 
   abbrev both : Bool → Bool
-  both b = let x = q.args in b && every (within x.limit) (moved_cells x.by_row x.width x.amounts.now x.cells.now)
+  both b = let x = q.args in b && every (within x.limit.most) (moved_cells x.by_row x.width x.amounts.now x.cells.now)
 
 pub returns-then-excess_each-lt-OUT : goal.returns-then-excess_each-lt-OUT
 returns-then-excess_each-lt-OUT c =

@@ -8,6 +8,7 @@ use Rattle.instance.specs.Sheet.{instance_of}
 use Rattle.instance.specs.Described.{labels_of}
 use Rattle.instance.specs.Refusal.{refused_in}
 use Rattle.messages.specs.EdgeRecord.{edge_move, EdgeLegal}
+use Rattle.messages.specs.Records.{to_node}
 use Rattle.messages.proofs.EdgeRecordLaws.{node_here, edge_here, legal_node, legal_edge_lem, row_ends, table_ends, row_room, table_room, legal_joined, put_back, legal_moved}
 use Rattle.messages.proofs.edge_record.move_edge.Goals as goal
 use Rattle.messages.proofs.edge_record.move_edge.Goals.{After-either-w, After-labels_of-other, Start}
@@ -24,7 +25,7 @@ module _ (o : After-either-w) where
   I = instance_of x.bytes.now
 
   abbrev g : EdgeLegal x.bytes.now q.args.nodes.now q.args.edges.now q.args.step.node q.args.step.index q.args.step.share
-  g = q.requires.legal
+  g = q.requires
 
   abbrev b : Bool
   b = eqb q.args.step.node o.low-low.result
@@ -39,13 +40,13 @@ module _ (o : After-either-w) where
   end_node = subst (λ (w : ℕ). w < x.nodes) (sym o.either-w.ensures) (by_cond (λ (w : ℕ). w < x.nodes) b (λ _. o.high.ensures.1) (λ _. o.low-low.ensures.1))
 
 pub low-low-requires : goal.low-low-requires
-low-low-requires c = edge_here c.args.sheet.now c.requires.legal
+low-low-requires c = edge_here c.args.sheet.now c.requires
 
 pub high-requires : goal.high-requires
-high-requires c = edge_here c.args.sheet.now c.requires.legal
+high-requires c = edge_here c.args.sheet.now c.requires
 
 pub labels_of-own-requires : goal.labels_of-own-requires
-labels_of-own-requires c = node_here c.args.sheet.now c.requires.legal
+labels_of-own-requires c = node_here c.args.sheet.now c.requires
 
 pub labels_of-other-requires : goal.labels_of-other-requires
 labels_of-other-requires c = end_node (goal.at.labels_of-other-requires c).After-either-w
@@ -70,7 +71,7 @@ module _ (p : After-labels_of-other) where
 pub move_parts-requires : goal.move_parts-requires
 move_parts-requires c =
     let p = (goal.at.move_parts-requires c).After-labels_of-other in
-    record { joined = legal_joined (x (o p)) (g (o p)) (named (o p)) (own_is p) (other_is p); le_share = ((g (o p)).shares, (q (o p)).requires.limited) }
+    record { joined = legal_joined (x (o p)) (g (o p)) (named (o p)) (own_is p) (other_is p); le_share = (g (o p)).shares }
 
 pub returns : goal.returns
 returns c =
@@ -80,7 +81,7 @@ returns c =
     let t = get_or (x (o p)).tables y.step.index 0 in
     let d = t + length (own p) * length (other p) in
     (λ i. edge_move (refused_in c.move_parts.result) (part_back a e y.nodes.now c.move_parts.new.row (omega arith) i) (part_back t d y.edges.now c.move_parts.new.cells (omega arith) i))
-    ∙ ap (put_back y.nodes.now y.edges.now a e t d) c.move_parts.ensures ∙ legal_moved (x (o p)) (g (o p)) (named (o p)) (own_is p) (other_is p) y.limit y.turned
+    ∙ ap (put_back y.nodes.now y.edges.now a e t d) c.move_parts.ensures ∙ legal_moved (x (o p)) (g (o p)) (named (o p)) (own_is p) (other_is p) y.limit.most (to_node y.flow)
 
 pub offset_bounds-sheet-u : goal.offset_bounds-sheet-u
 offset_bounds-sheet-u c = omega (arith, legal_node (x (o c)) (g (o c)))

@@ -6,6 +6,7 @@ use Rattle.integers.proofs.Places.{if-true, if-false}
 use Rattle.integers.proofs.Ranges.{shifted}
 use Rattle.messages.specs.EdgeMessage.{width_of, Shape}
 use Rattle.messages.specs.EdgeRecord.{EdgeMove, edge_move, parts_moved}
+use Rattle.messages.specs.Records.{to_node}
 use Rattle.messages.proofs.EdgeLaws.{taken_row, taken_within}
 use Rattle.messages.proofs.EdgeRecordLaws.{amounts_within}
 use Rattle.messages.proofs.edge_record.move_parts.Goals as goal
@@ -29,10 +30,10 @@ module _ (p : After-amounts_of-amounts) where
       transport (λ j. Shape (sym wide j) (sym sizes.either-height.ensures j) l) start.requires.joined.ends.shape
 
   small : Within (2 ^ 41) p.amounts_of-amounts.result
-  small = subst (λ (v : List ℤ). Within (2 ^ 41) v) (sym p.amounts_of-amounts.ensures) (amounts_within start.requires.joined start.args.turned start.args.share)
+  small = subst (λ (v : List ℤ). Within (2 ^ 41) v) (sym p.amounts_of-amounts.ensures) (amounts_within start.requires.joined (to_node start.args.flow) start.args.share)
 
   abbrev moved : List ℤ → ℕ → EdgeMove
-  moved v w = let x = start.args in parts_moved x.limit v x.row.now x.cells.now x.by_row w
+  moved v w = let x = start.args in parts_moved x.limit.most v x.row.now x.cells.now x.by_row w
 
 -- the same negated
 taken-small : (n : After-negated-taken) → Within (2 ^ 41) n.negated-taken.result
@@ -40,7 +41,7 @@ taken-small n = subst (λ (v : List ℤ). Within (2 ^ 41) v) (sym n.negated-take
 
 pub both_fit-requires : goal.both_fit-requires
 both_fit-requires c =
-    let p = (goal.at.both_fit-requires c).After-amounts_of-amounts in record { row_len_bound = let j = (start p).requires.joined in (j.few, shape p, j.row_range, j.cell_range); within = (small p, c.negated-taken.ensures, (start p).requires.le_share.1) }
+    let p = (goal.at.both_fit-requires c).After-amounts_of-amounts in record { row_len_bound = let j = (start p).requires.joined in (j.few, shape p, j.row_range, j.cell_range); within = (small p, c.negated-taken.ensures) }
 
 pub raise_each-requires : goal.raise_each-requires
 raise_each-requires c =

@@ -25,16 +25,16 @@ pub returns-then-in_range-2 : goal.returns-then-in_range-2
 returns-then-in_range-2 c =
     let p = (goal.at.returns-then-in_range-2 c).After-plus-label in let a = (start p).args in
     rw (node p, label p)
-    (moved_both a.limit a.nodes.now a.labels.now a.i a.p (ap (within a.limit) (sym (node p)) ∙ sym c.in_range.ensures ∙ c.if-in_range.true)
-    (ap (within a.limit) (sym (label p)) ∙ sym c.in_range-then-in_range.ensures ∙ c.if-in_range-2.true))
+    (moved_both a.limit.most a.nodes.now a.labels.now a.i a.p (ap (within a.limit.most) (sym (node p)) ∙ sym c.in_range.ensures ∙ c.if-in_range.true)
+    (ap (within a.limit.most) (sym (label p)) ∙ sym c.in_range-then-in_range.ensures ∙ c.if-in_range-2.true))
 
 pub returns-else-in_range-2 : goal.returns-else-in_range-2
 returns-else-in_range-2 c =
     let p = (goal.at.returns-else-in_range-2 c).After-plus-label in let a = (start p).args in
-    moved_not a.limit a.nodes.now a.labels.now a.i a.p
-    (rw (ap (within a.limit) (sym (node p)) ∙ sym c.in_range.ensures ∙ c.if-in_range.true, ap (within a.limit) (sym (label p)) ∙ sym c.in_range-then-in_range.ensures ∙ c.if-in_range-2.false))
+    moved_not a.limit.most a.nodes.now a.labels.now a.i a.p
+    (rw (ap (within a.limit.most) (sym (node p)) ∙ sym c.in_range.ensures ∙ c.if-in_range.true, ap (within a.limit.most) (sym (label p)) ∙ sym c.in_range-then-in_range.ensures ∙ c.if-in_range-2.false))
 
 pub returns-else-in_range : goal.returns-else-in_range
 returns-else-in_range c =
     let p = (goal.at.returns-else-in_range c).After-plus-label in let a = (start p).args in
-    moved_not a.limit a.nodes.now a.labels.now a.i a.p (rw (ap (within a.limit) (sym (node p)) ∙ sym c.in_range.ensures ∙ c.if-in_range.false))
+    moved_not a.limit.most a.nodes.now a.labels.now a.i a.p (rw (ap (within a.limit.most) (sym (node p)) ∙ sym c.in_range.ensures ∙ c.if-in_range.false))

@@ -26,14 +26,14 @@ module _ (p : After-incumbent_ok) where
   abbrev fit : Else-not-lengths_agree
   fit = (goal.at.After-incumbent_ok p).Else-not-lengths_agree
 
-  ranged : in_range p.args.limit (lends (start fit)) ≡ true
-  ranged = range_by p.args.sheet.now.bytes.now p.args.limit (lends (start fit)) ∙ sym p.costs_ok.ensures ∙ p.if-not-costs_ok.false
+  ranged : in_range p.args.limit.most (lends (start fit)) ≡ true
+  ranged = range_by p.args.sheet.now.bytes.now p.args.limit.most (lends (start fit)) ∙ sym p.costs_ok.ensures ∙ p.if-not-costs_ok.false
 
 pub returns-then-not-lengths_agree : goal.returns-then-not-lengths_agree
 returns-then-not-lengths_agree c =
     let q = c.args.sheet.now in
     let b = lends (goal.at.returns-then-not-lengths_agree c).Start in
-    lent_unfit q.bytes.now c.args.limit b q.readable (lengths_by q b ∙ sym c.lengths_agree.ensures ∙ c.if-not-lengths_agree.true)
+    lent_unfit q.bytes.now c.args.limit.most b q.readable (lengths_by q b ∙ sym c.lengths_agree.ensures ∙ c.if-not-lengths_agree.true)
 
 pub incumbent_ok-requires : goal.incumbent_ok-requires
 incumbent_ok-requires c =
@@ -46,16 +46,16 @@ returns-then-not-costs_ok c =
     let p = (goal.at.returns-then-not-costs_ok c).Else-not-lengths_agree in
     let q = c.args.sheet.now in
     let b = lends (start p) in
-    lent_far q.bytes.now c.args.limit b q.readable (agreed p) (range_by q.bytes.now c.args.limit b ∙ sym c.costs_ok.ensures ∙ c.if-not-costs_ok.true)
+    lent_far q.bytes.now c.args.limit.most b q.readable (agreed p) (range_by q.bytes.now c.args.limit.most b ∙ sym c.costs_ok.ensures ∙ c.if-not-costs_ok.true)
 
 pub returns-then-not-incumbent_ok : goal.returns-then-not-incumbent_ok
 returns-then-not-incumbent_ok c =
     let p = (goal.at.returns-then-not-incumbent_ok c).After-incumbent_ok in
     let q = c.args.sheet.now in
-    lent_unmatched q.bytes.now c.args.limit (lends (start (fit p))) q.readable (agreed (fit p)) (ranged p) (sym c.incumbent_ok.ensures ∙ c.if-not-incumbent_ok.true)
+    lent_unmatched q.bytes.now c.args.limit.most (lends (start (fit p))) q.readable (agreed (fit p)) (ranged p) (sym c.incumbent_ok.ensures ∙ c.if-not-incumbent_ok.true)
 
 pub returns : goal.returns
 returns c =
     let p = (goal.at.returns c).After-incumbent_ok in
     let q = c.args.sheet.now in
-    lent_good q.bytes.now c.args.limit (lends (start (fit p))) q.readable (agreed (fit p)) (ranged p) (sym c.incumbent_ok.ensures ∙ c.if-not-incumbent_ok.false)
+    lent_good q.bytes.now c.args.limit.most (lends (start (fit p))) q.readable (agreed (fit p)) (ranged p) (sym c.incumbent_ok.ensures ∙ c.if-not-incumbent_ok.false)

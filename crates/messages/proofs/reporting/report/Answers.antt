@@ -34,9 +34,6 @@ returns-in_err-sheet c =
     ap reported_as r ∙ ap (λ (x : Refusal). calls.refused (number x)) e
     ∙ report_refused c.args.sheet.now (lends q) cost_limit (number c.in_err-sheet.field-0.0) (n ∙ lent_unread c.args.sheet.now cost_limit (lends q) (λ z. omega (arith, n, m))) (λ z. omega (arith, m))
 
-pub check_lent-requires : goal.check_lent-requires
-check_lent-requires c = omega arith
-
 pub returns-in_err-check_lent : goal.returns-in_err-check_lent
 returns-in_err-check_lent c =
     let p = (goal.at.returns-in_err-check_lent c).In_ok-sheet in let q = start p in

@@ -1,5 +1,6 @@
 -- `all_half` meets its contract. The loop's invariant: if what is joined stays below twice `half`, each cost so far lies within it.
-use Rattle.std.proofs.Common.{◌≤◌, get_or, ℤ, pos, nat_abs, subst, arith, to_z-of_z, w64, rules}
+use Rattle.std.proofs.Common.{ℕ, ◌≤◌, get_or, ℤ, pos, nat_abs, subst, arith, to_z-of_z, w64, rules}
+use Rattle.integers.specs.Sum.{Within}
 use Rattle.messages.proofs.ExcessLaws.{halving_none, halving_more, halving_all}
 use Rattle.messages.proofs.rows.all_half.Goals as goal
 
@@ -7,10 +8,10 @@ pub loop-cost-preserved : goal.loop-cost-preserved
 loop-cost-preserved c =
     let x = get_or c.args.costs.now c.loop-cost.cost-index (pos 0) in
     halving_more c.raised-all.result c.loop-cost.invariant (omega arith)
-    (λ h. subst (λ (z : ℤ). nat_abs z ≤ c.args.half) (to_z-of_z {w = w64} {z = x} (search rules)) (c.raised-all.ensures h))
+    (λ h. subst (λ (z : ℤ). nat_abs z ≤ c.half-half.result.most) (to_z-of_z {w = w64} {z = x} (search rules)) (c.raised-all.ensures h))
 
 pub loop-cost-init : goal.loop-cost-init
 loop-cost-init c = halving_none _ _
 
 pub returns : goal.returns
-returns c = halving_all c.loop-cost.invariant (omega arith)
+returns c t = subst (λ (k : ℕ). Within k c.args.costs.now) c.half-half.ensures (halving_all c.loop-cost.invariant (omega arith) t)

@@ -3,4 +3,4 @@ use Rattle.messages.proofs.ExcessLaws.{Halving}
 use Rattle.messages.proofs.rows.all_half.Given as goal
 
 abbrev pub invariant-loop-cost : goal.invariant-loop-cost
-invariant-loop-cost l = Halving l.half l.costs l.cost-index l.all
+invariant-loop-cost l = Halving l.half.most l.costs l.cost-index l.all

@@ -11,8 +11,8 @@ loop-cost-init c = joining_none _ _
 pub loop-cost-preserved : goal.loop-cost-preserved
 loop-cost-preserved c =
     joining_more c.excess-all.result c.loop-cost.invariant (omega arith)
-    (c.excess-all.ensures ∙ ap (within c.args.limit) (to_z-of_z {w = w64} {z = get_or c.args.costs.now c.loop-cost.cost-index (pos 0)} (search rules)))
+    (c.excess-all.ensures ∙ ap (within c.args.limit.most) (to_z-of_z {w = w64} {z = get_or c.args.costs.now c.loop-cost.cost-index (pos 0)} (search rules)))
 
 pub returns : goal.returns
 returns c =
-    joining_all c.loop-cost.invariant (omega arith) ∙ sym (every_is (within c.args.limit) c.args.costs.now (pos 0))
+    joining_all c.loop-cost.invariant (omega arith) ∙ sym (every_is (within c.args.limit.most) c.args.costs.now (pos 0))

@@ -5,4 +5,4 @@ use Rattle.messages.proofs.ExcessLaws.{Joining}
 use Rattle.messages.proofs.rows.all_in_range.Given as goal
 
 abbrev pub invariant-loop-cost : goal.invariant-loop-cost
-invariant-loop-cost l = Joining (λ j. within l.limit (get_or l.costs j (pos 0))) (length l.costs) l.cost-index l.all
+invariant-loop-cost l = Joining (λ j. within l.limit.most (get_or l.costs j (pos 0))) (length l.costs) l.cost-index l.all

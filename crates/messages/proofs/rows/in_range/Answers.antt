@@ -5,4 +5,4 @@ use Rattle.messages.proofs.rows.in_range.Goals as goal
 
 pub returns : goal.returns
 unfolding within
-returns c = ap (λ (n : ℕ). leb n c.args.limit) (c.unsigned_abs.ensures.value ∙ ap nat_abs (to_z-of_z c.ranges.cost))
+returns c = ap (λ (n : ℕ). leb n c.args.limit.most) (c.unsigned_abs.ensures.value ∙ ap nat_abs (to_z-of_z c.ranges.cost))

@@ -44,7 +44,6 @@ invariant_of-result c =
     let e : x.prices - x.nodes ≡ node_cells (instance_of s) = omega (arith, count x) in
     let f : x.edge_prices + 1 - (x.ends + 1) ≡ 2 * (instance_of s).edge_count = omega (arith, pairs x) in
     record {
-      limited = c.requires;
       held = subst (Indexed (instance_of s).label (node_cells (instance_of s))) (sym c.of-holders.ensures) (labels_indexed s x.readable (nodes_is x) e);
       lowered = subst (Indexed (instance_of s).high (instance_of s).edge_count) (sym c.of-lowers.ensures) (highs_indexed s x.readable x.placed.1 f);
     }

@@ -3,7 +3,7 @@ use Rattle.std.proofs.Common.{◌≡◌, ◌^◌, ◌≤◌, Bool, ℤ, pos, ◌
 use Rattle.integers.proofs.Bits.{same}
 use Rattle.messages.specs.declared.records.Flow.{Flow}
 use Rattle.messages.specs.LabelMessage.{node_amount, label_amount, label_given}
-use Rattle.messages.specs.Records.{turned}
+use Rattle.messages.specs.Records.{to_node}
 use Rattle.messages.specs.State.{instance_in}
 use Rattle.messages.proofs.RowLaws.{from_zero, zero_fits, neg_fits}
 use Rattle.messages.proofs.LabelMessageLaws.{place_in, node_fits, label_fits}
@@ -13,7 +13,7 @@ use Rattle.messages.proofs.state.State.given.Goals.{Start}
 
 module _ (q : Start) where
   abbrev given : Flow → ℤ
-  given f = let a = q.args in label_given (instance_in a.self.now) a.self.now.nodes.now a.self.now.labels.now (turned f) a.step.node a.place a.step.share
+  given f = let a = q.args in label_given (instance_in a.self.now) a.self.now.nodes.now a.self.now.labels.now (to_node f) a.step.node a.place a.step.share
 
   abbrev amount : ℤ
   amount = let a = q.args in label_amount (instance_in a.self.now) a.self.now.labels.now a.place a.step.share

@@ -67,7 +67,7 @@ shift_label-requires c =
 pub returns-then-legal_position : goal.returns-then-legal_position
 returns-then-legal_position c =
     let p = (goal.at.returns-then-legal_position c).Then-legal_position in let a = (start p).args in
-    let k = a.self.now.run.now.limit in
+    let k = a.self.now.run.now.limit.most in
     c.shift_label.ensures
     ∙ ap (label_moved k a.self.now.nodes.now a.self.now.labels.now (at p + (r p).index)) (same c.given-p.result c.given-p.type_inv ∙ c.given-p.ensures.0)
     ∙ ap (λ (i : ℕ). label_moved k a.self.now.nodes.now a.self.now.labels.now (i + (r p).index) (label_given (I p) a.self.now.nodes.now a.self.now.labels.now a.turned (r p).node (i + (r p).index) (r p).share)) (begins p)
@@ -76,4 +76,4 @@ returns-then-legal_position c =
 pub returns-else-legal_position : goal.returns-else-legal_position
 returns-else-legal_position c =
     let a = c.args in
-    label_refused (instance_of a.self.now.run.now.sheet.bytes.now) a.self.now.run.now.limit a.self.now.nodes.now a.self.now.labels.now a.turned a.step.node a.step.index a.step.share (sym c.legal_position.ensures ∙ c.if-legal_position.false)
+    label_refused (instance_of a.self.now.run.now.sheet.bytes.now) a.self.now.run.now.limit.most a.self.now.nodes.now a.self.now.labels.now a.turned a.step.node a.step.index a.step.share (sym c.legal_position.ensures ∙ c.if-legal_position.false)

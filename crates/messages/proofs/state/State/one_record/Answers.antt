@@ -25,7 +25,7 @@ module _ (q : Start) where
   I = instance_of q.args.self.now.run.now.sheet.bytes.now
 
   abbrev limit : ℕ
-  limit = q.args.self.now.run.now.limit
+  limit = q.args.self.now.run.now.limit.most
 
   abbrev l : List ℕ
   l = q.args.bytes.now
@@ -51,11 +51,11 @@ module _ (p : In-Some) where
 pub round_record-requires : goal.round_record-requires
 round_record-requires c =
     let g = c.requires.good in
-    let f = fit g c.args.self.now.run.now.limited in
+    let f = fit g c.args.self.now.run.now.limit.few in
     record { round_asked = record { node_costs = f.0; edge_costs = f.2 }; incumbent_fits = incumbent_fits g }
 
 pub message-requires : goal.message-requires
-message-requires c = record { fits = fit c.requires.good c.args.self.now.run.now.limited }
+message-requires c = record { fits = fit c.requires.good c.args.self.now.run.now.limit.few }
 
 pub returns-in_default : goal.returns-in_default
 returns-in_default c =

@@ -29,7 +29,7 @@ module _ (p : After-one_record) where
   l = start.args.records.now
 
   abbrev limit : ℕ
-  limit = start.args.self.now.run.now.limit
+  limit = start.args.self.now.run.now.limit.most
 
   abbrev at : ℕ
   at = 5 * head.loop-done.done
@@ -51,7 +51,7 @@ module _ (p : After-one_record) where
 
 pub loop-done-init : goal.loop-done-init
 loop-done-init c =
-    let a = c.args in going_start a.self.now.run.now.sheet.bytes.now a.self.now.run.now.limit a.records.now (lent a.self.now.nodes.now a.self.now.labels.now a.self.now.edges.now a.self.now.incumbent.now) c.requires.good c.requires.whole
+    let a = c.args in going_start a.self.now.run.now.sheet.bytes.now a.self.now.run.now.limit.most a.records.now (lent a.self.now.nodes.now a.self.now.labels.now a.self.now.edges.now a.self.now.incumbent.now) c.requires.good c.requires.whole
 
 pub overflow_add-stuck : goal.overflow_add-stuck
 overflow_add-stuck c =

@@ -4,4 +4,4 @@ use Rattle.messages.proofs.RunLaws.{Going}
 use Rattle.messages.proofs.state.State.run_all.Given as goal
 
 abbrev pub invariant-loop-done : goal.invariant-loop-done
-invariant-loop-done l = Going l.run.sheet.bytes.now l.run.limit l.records (lent l.initial.nodes l.initial.labels l.initial.edges l.initial.incumbent) (lent l.nodes l.labels l.edges l.incumbent) l.done l.stuck
+invariant-loop-done l = Going l.run.sheet.bytes.now l.run.limit.most l.records (lent l.initial.nodes l.initial.labels l.initial.edges l.initial.incumbent) (lent l.nodes l.labels l.edges l.incumbent) l.done l.stuck
