@@ -61,6 +61,10 @@ good_of s limit b w = record {
 pub good_lent : (s : List ℕ) (limit : ℕ) (b : Buffers) → lent_refusal s limit b ≡ 0 → Good s limit b
 good_lent s limit b e = good_of s limit b (lent_well s limit b e)
 
+-- what a move between a node's costs and a label's leaves, with the edges' costs and the incumbent as they were
+abbrev pub label_settled : Buffers → Moved → Settled
+label_settled b m = settle (lent m.nodes m.labels b.edges b.incumbent) 0 m.refusal
+
 -- ---- what is good fits
 
 module _ {s : List ℕ} {limit : ℕ} {b : Buffers} (g : Good s limit b) where
@@ -90,17 +94,14 @@ module _ {s : List ℕ} {limit : ℕ} {b : Buffers} (g : Good s limit b) where
 
   -- ---- kinds 3 and 4
 
-  abbrev pub label_settled : Moved → Settled
-  label_settled m = settle (lent m.nodes m.labels b.edges b.incumbent) 0 m.refusal
-
-  label_settled_lem : (i : ℕ) (p : ℤ) → i < node_cells I → settled b (checked I limit (shift (to_label i p) b)) ≡ label_settled (label_moved limit b.nodes b.labels i p)
+  label_settled_lem : (i : ℕ) (p : ℤ) → i < node_cells I → settled b (checked I limit (shift (to_label i p) b)) ≡ label_settled b (label_moved limit b.nodes b.labels i p)
   unfolding checked label_moved
   label_settled_lem i p h =
       ap₂ (λ (t : Bool) (b' : Buffers). settled b (cond t (done b' 0) (refused 13))) (touched_label I limit g.sound.sized g.ranged i p h) (moved_label I b i p)
       ∙ go (within limit ((costs_of b).node i +ℤ neg_ℤ p) && within limit ((costs_of b).label i +ℤ p)) (add_at b.nodes i (neg_ℤ p)) (add_at b.labels i p)
     where
       go : (t : Bool) (l m : List ℤ)
-          → settled b (cond t (done (lent l m b.edges b.incumbent) 0) (refused 13)) ≡ label_settled (cond t (label_move 0 l m) (label_move 13 b.nodes b.labels))
+          → settled b (cond t (done (lent l m b.edges b.incumbent) 0) (refused 13)) ≡ label_settled b (cond t (label_move 0 l m) (label_move 13 b.nodes b.labels))
       go true l m = refl
       go false l m = refl
 
@@ -112,8 +113,8 @@ module _ {s : List ℕ} {limit : ℕ} {b : Buffers} (g : Good s limit b) where
   edge_either true o m f = f refl
   edge_either false o m f = refl
 
-  label_either : (t : Bool) (o : Outcome) (m : Moved) → (t ≡ true → settled b o ≡ label_settled m)
-      → settled b (cond t o (refused 12)) ≡ label_settled (cond t m (label_move 12 b.nodes b.labels))
+  label_either : (t : Bool) (o : Outcome) (m : Moved) → (t ≡ true → settled b o ≡ label_settled b m)
+      → settled b (cond t o (refused 12)) ≡ label_settled b (cond t m (label_move 12 b.nodes b.labels))
   label_either true o m f = f refl
   label_either false o m f = refl
 
@@ -133,18 +134,18 @@ module _ {s : List ℕ} {limit : ℕ} {b : Buffers} (g : Good s limit b) where
   place_in u k r t = let (x, y, z, e) = legal_position_is I u k r t in omega (arith, row_inside I y)
 
   label_kind : (turned : Bool) (u k r : ℕ)
-      → settled b (cond (legal_position I u k r) (checked I limit (shift (deltas I (costs_of b) (cond turned label_to_node node_to_label) u k r) b)) (refused 12)) ≡ label_settled (label_taken I limit b.nodes b.labels turned u k r)
+      → settled b (cond (legal_position I u k r) (checked I limit (shift (deltas I (costs_of b) (cond turned label_to_node node_to_label) u k r) b)) (refused 12)) ≡ label_settled b (label_taken I limit b.nodes b.labels turned u k r)
   unfolding label_taken deltas
   label_kind turned u k r =
       label_either (legal_position I u k r) (checked I limit (shift (deltas I (costs_of b) (cond turned label_to_node node_to_label) u k r) b)) (label_moved limit b.nodes b.labels (first I u + k) (label_given I b.nodes b.labels turned u (first I u + k) r))
       (λ t. moved turned (place_in u k r t))
     where
       moved : (turned : Bool) → first I u + k < node_cells I
-          → settled b (checked I limit (shift (deltas I (costs_of b) (cond turned label_to_node node_to_label) u k r) b)) ≡ label_settled (label_moved limit b.nodes b.labels (first I u + k) (label_given I b.nodes b.labels turned u (first I u + k) r))
+          → settled b (checked I limit (shift (deltas I (costs_of b) (cond turned label_to_node node_to_label) u k r) b)) ≡ label_settled b (label_moved limit b.nodes b.labels (first I u + k) (label_given I b.nodes b.labels turned u (first I u + k) r))
       moved true h = label_settled_lem (first I u + k) (label_given I b.nodes b.labels true u (first I u + k) r) h
       moved false h = label_settled_lem (first I u + k) (label_given I b.nodes b.labels false u (first I u + k) r) h
 
-  pub label_turn : (flow : Flow) (u k r : ℕ) → settled b (effect I limit b (message (label_message flow)) u k r) ≡ label_settled (label_taken I limit b.nodes b.labels (to_node flow) u k r)
+  pub label_turn : (flow : Flow) (u k r : ℕ) → settled b (effect I limit b (message (label_message flow)) u k r) ≡ label_settled b (label_taken I limit b.nodes b.labels (to_node flow) u k r)
   unfolding effect legal_message
   label_turn FromNode u k r = label_kind false u k r
   label_turn ToNode u k r = label_kind true u k r
