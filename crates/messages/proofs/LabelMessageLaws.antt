@@ -1,12 +1,12 @@
 -- Kinds 3 and 4: what a place gives to its label or takes from it, that it fits, and the one amount moved.
 -- Assumes nothing.
-use Rattle.std.proofs.Common.{◌≡◌, ℕ, zero, suc, ◌+◌, ◌^◌, ◌<◌, ◌≤◌, true, false, ◌&&◌, List, [], ◌∷◌, map, length, get_or, set, ℤ, pos, ◌+ℤ◌, ◌-ℤ◌, nat_abs, sym, refl, ap, ◌∙◌, ap₂, arith}
+use Rattle.std.proofs.Common.{◌≡◌, ℕ, zero, suc, ◌+◌, ◌^◌, ◌<◌, ◌≤◌, true, false, ◌&&◌, List, [], ◌∷◌, map, length, get_or, set, ℤ, pos, ◌+ℤ◌, ◌-ℤ◌, nat_abs, sym, refl, ap₂, arith}
 use Rattle.integers.specs.Checks.{within}
 use Rattle.integers.specs.Least.{least_of, without}
 use Rattle.integers.specs.Share.{share, amount}
 use Rattle.integers.specs.Sum.{Within}
 use Rattle.integers.specs.Rows.{part}
-use Rattle.integers.specs.Places.{range, others}
+use Rattle.integers.specs.Places.{others}
 use Rattle.integers.proofs.Parts.{sub, abs}
 use Rattle.integers.proofs.Places.{if-true, if-false, and_both}
 use Rattle.integers.proofs.Share.{abs_le, amount_toward}

@@ -9,7 +9,7 @@ use Rattle.messages.specs.declared.records.Flow.{Flow}
 use Rattle.messages.specs.declared.records.Record.{Record}
 use Rattle.messages.specs.declared.state.State.{State}
 use Rattle.messages.specs.Lent.{lent, lent_of, NodeFits, EdgeFits}
-use Rattle.messages.specs.State.{instance_in, limit_in, buffers_in, leaves}
+use Rattle.messages.specs.State.{Same, instance_in, limit_in, buffers_in, leaves}
 use Rattle.messages.specs.Step.{settle}
 use Rattle.messages.specs.EdgeRecord.{EdgeMove}
 use Rattle.messages.specs.LabelMessage.{Moved}
@@ -26,7 +26,7 @@ module _ (s : State) where
   abbrev bytes : List ℕ
   bytes = s.run.now.sheet.bytes.now
 
-  good : Good bytes (limit_in s) (buffers_in s)
+  pub good : Good bytes (limit_in s) (buffers_in s)
   good = good_lent bytes (limit_in s) (buffers_in s) s.good
 
   all_fit : NodeFits bytes s.nodes.now × NodeFits bytes s.labels.now × EdgeFits bytes s.edges.now
@@ -61,6 +61,10 @@ module _ (s : State) where
   pub rounding_left : (r : Record) {m : RoundMove} → m ≡ round_taken (instance_in s) s.nodes.now s.edges.now s.incumbent.now r.node r.index r.share
       → settle (lent s.nodes.now s.labels.now s.edges.now m.incumbent) m.stuck m.refusal ≡ leaves s runs.rounding r
   rounding_left r e = round_settled_lem (instance_in s) (limit_in s) (buffers_in s) r.node r.index r.share e
+
+-- a record after others
+pub same_after : {s t u : State} → Same s t → Same t u → Same s u
+same_after p q = record { run = q.run ∙ p.run; nodes = q.nodes ∙ p.nodes; labels = q.labels ∙ p.labels; edges = q.edges ∙ p.edges; incumbent = q.incumbent ∙ p.incumbent }
 
 -- ---- a report
 

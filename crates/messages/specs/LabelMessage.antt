@@ -6,7 +6,7 @@ use Rattle.integers.specs.Rows.{add_at}
 use Rattle.integers.specs.Places.{others}
 use Rattle.integers.specs.Checks.{within}
 use Rattle.instance.specs.Instance.{Instance, exclusive, first, node_cells}
-use Rattle.instance.specs.Sheet.{instance_of, refusal_of}
+use Rattle.instance.specs.Sheet.{instance_of}
 use Rattle.rules.specs.Places.{node_places, label_places}
 use Rattle.index.specs.Index.{Indexed}
 

@@ -7,7 +7,6 @@ use Rattle.instance.specs.Instance.{Instance, table}
 use Rattle.instance.specs.Sheet.{instance_of}
 use Rattle.rules.specs.Costs.{Costs, position}
 use Rattle.rules.specs.Rounding.{best, key}
-use Rattle.messages.specs.Lent.{NodeFits, EdgeFits}
 use Rattle.index.specs.Index.{Indexed}
 
 -- the costs of lent node and edge buffers

@@ -47,7 +47,7 @@ impl State<'_> {
 // What a run goes by, or why it is refused before its first record.
 fn start<'a>(sheet: &'a [u8], limit: Limit, records: &[u8], lent: Lent) -> Result<Run<'a>, Refusal>
     ensures refusal { refused_in result ≡ run_refusal sheet.now limit.most (lent_of lent.entry) records.now }
-    ensures same { IfOk result (λ r. (r.sheet.bytes ≡ sheet.entry) × (r.limit ≡ limit)) }
+    ensures same { IfOk result (λ r. (r.sheet.bytes ≡ sheet.entry) × (r.limit.most ≡ limit.most)) }
 {
     let sheet = Sheet::read(sheet)?;
     check_lent(&sheet, limit, lent)?;
@@ -76,9 +76,9 @@ pub fn run(
         incumbent,
     };
     match start(sheet, COST_LIMIT, records, lent) {
-        Ok(run) => {
+        Ok(begun) => {
             let mut state = State {
-                run: &run,
+                run: &begun,
                 nodes,
                 labels,
                 edges,

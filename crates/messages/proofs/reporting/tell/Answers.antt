@@ -1,5 +1,5 @@
 -- `tell` meets its contract: what was lent is good, so the bound counts, and one that is kept has a price.
-use Rattle.std.proofs.Common.{ℕ, List, sym, ap, ◌∙◌, ap₂, arith}
+use Rattle.std.proofs.Common.{ℕ, List, sym, ap, ◌∙◌, ap₂}
 use Rattle.integers.proofs.Bits.{same}
 use Rattle.instance.specs.Sheet.{instance_of}
 use Rattle.rules.specs.Costs.{Buffers}

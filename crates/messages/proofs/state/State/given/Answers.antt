@@ -1,5 +1,5 @@
 -- `given` meets its contract: the node's amount, or the label's turned round.
-use Rattle.std.proofs.Common.{◌≡◌, ◌^◌, ◌≤◌, Bool, ℤ, pos, ◌-ℤ◌, nat_abs, sym, ap, ◌∙◌, subst, arith}
+use Rattle.std.proofs.Common.{◌^◌, ◌≤◌, ℤ, pos, ◌-ℤ◌, nat_abs, sym, ap, ◌∙◌, subst, arith}
 use Rattle.integers.proofs.Bits.{same}
 use Rattle.messages.specs.declared.records.Flow.{Flow}
 use Rattle.messages.specs.LabelMessage.{node_amount, label_amount, label_given}

@@ -1,5 +1,5 @@
 -- `node_amount` meets its contract: the node's row is a part of the node costs.
-use Rattle.std.proofs.Common.{◌≡◌, ℕ, ◌+◌, ◌-◌, ◌<◌, ◌≤◌, List, length, get_or, ℤ, pos, ◌∙◌, ap₂, arith}
+use Rattle.std.proofs.Common.{◌≡◌, ℕ, ◌+◌, ◌-◌, ◌<◌, ◌≤◌, length, get_or, pos, ◌∙◌, ap₂, arith}
 use Rattle.integers.specs.Least.{without}
 use Rattle.integers.specs.Rows.{part}
 use Rattle.integers.specs.Share.{amount}

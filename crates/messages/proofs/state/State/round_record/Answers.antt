@@ -1,5 +1,5 @@
 -- `round_record` meets its contract: a record that names something is refused, and any other rounds; what was found may replace the incumbent.
-use Rattle.std.proofs.Common.{◌≡◌, ◌≤◌, Bool, true, false, ◌&&◌, Some, eqb, List, length, sym, ◌∙◌, arith, length-take-le}
+use Rattle.std.proofs.Common.{◌≡◌, ◌≤◌, Some, length, sym, ◌∙◌, arith, length-take-le}
 use Rattle.instance.specs.Instance.{Instance}
 use Rattle.instance.specs.Sheet.{instance_of}
 use Rattle.instance.specs.declared.sheet.Sheet.{Sheet}
@@ -7,11 +7,10 @@ use Rattle.instance.proofs.Sheets as sheet
 use Rattle.rules.specs.Costs.{Costs}
 use Rattle.rules.specs.Rounding.{round}
 use Rattle.rules.specs.Run.{rounding}
-use Rattle.messages.specs.RoundRecord.{RoundMove, round_move, round_left, round_taken}
+use Rattle.messages.specs.RoundRecord.{round_move, round_left, round_taken}
 use Rattle.messages.specs.Rounded.{costs_by, rounded_by}
-use Rattle.messages.specs.State.{instance_in, limit_in, buffers_in, leaves}
-use Rattle.messages.specs.Step.{settle}
-use Rattle.messages.proofs.RoundRecordLaws.{taken_rounds, taken_refused, places_long, stuck_left, found_labelling, found_left, round_settled_lem}
+use Rattle.messages.specs.State.{instance_in}
+use Rattle.messages.proofs.RoundRecordLaws.{taken_rounds, taken_refused, places_long, stuck_left, found_labelling, found_left}
 use Rattle.messages.proofs.StateLaws.{kept_fits, rounding_left, good_after}
 use Rattle.messages.proofs.state.State.round_record.Goals as goal
 use Rattle.messages.proofs.state.State.round_record.Goals.{After-adopt, Else-not-names_nothing, In-Some, Start}
