@@ -1,9 +1,9 @@
 -- Legality: what the code's tests say of it, and what a legal record is known by.
 -- Assumes nothing.
-use Rattle.std.proofs.Common.{◌≡◌, ℕ, ◌+◌, ◌<◌, ◌≤◌, Bool, true, false, eqb, leb, List, ℤ, sym, le-ltb, lt-ltb, eq-eqb, ne_eqb, le-leb}
+use Rattle.std.proofs.Common.{◌&&◌, ltb, refl, ◌≡◌, ℕ, ◌+◌, ◌<◌, ◌≤◌, Bool, true, false, leb, List, ℤ, sym, le-ltb, lt-ltb, le-leb}
 use borrow.Author.Tests.{lt-leb}
-use Rattle.integers.proofs.Places.{if-true, if-false}
-use Rattle.instance.specs.Instance.{Instance, exclusive, first}
+use Rattle.integers.proofs.Places.{if-true, if-false, and_true}
+use Rattle.instance.specs.Instance.{Instance, first}
 use Rattle.instance.specs.Sheet.{instance_of}
 use Rattle.rules.specs.Run.{legal_share, legal_edge, legal_position}
 use Rattle.rules.proofs.Run.{legal_edge_is, legal_position_is}
@@ -22,52 +22,24 @@ pub share_some : (r : ℕ) → 1 ≤ r → leb r 64 ≡ legal_share r
 unfolding legal_share
 share_some r h = rw (le-leb 1 r h)
 
--- ---- edges
+-- ---- edges and positions
 
-module _ (I : Instance) (u e r : ℕ) where
-  pub edge_no_share : legal_share r ≡ false → false ≡ legal_edge I u e r
-  unfolding legal_edge
-  edge_no_share h = rw h
+-- four tests in a row: the first two together, the third of a number, and then the last
+module _ (a b : Bool) (k m : ℕ) (x : Bool) where
+  pub tests_off : (a && b) ≡ false → false ≡ (a && b && ltb k m && x)
+  tests_off h = go a b h
+    where
+      go : (a b : Bool) → (a && b) ≡ false → false ≡ (a && b && ltb k m && x)
+      go true true h = cc h
+      go true false h = refl
+      go false b h = refl
 
-  module _ (h : legal_share r ≡ true) where
-    pub edge_no_node : I.node_count ≤ u → false ≡ legal_edge I u e r
-    unfolding legal_edge
-    edge_no_node g = rw (h, le-ltb u I.node_count g)
+  module _ (h : (a && b) ≡ true) where
+    pub tests_past : m ≤ k → false ≡ (a && b && ltb k m && x)
+    tests_past g = let (p, q) = and_true a b h in rw (p, q, le-ltb k m g)
 
-    module _ (g : u < I.node_count) where
-      pub edge_none : I.edge_count ≤ e → false ≡ legal_edge I u e r
-      unfolding legal_edge
-      edge_none k = rw (h, lt-ltb u I.node_count g, le-ltb e I.edge_count k)
-
-      module _ (k : e < I.edge_count) where
-        pub edge_low : u ≡ I.low e → true ≡ legal_edge I u e r
-        unfolding legal_edge
-        edge_low l = rw (h, lt-ltb u I.node_count g, lt-ltb e I.edge_count k, eq-eqb u (I.low e) l)
-
-        pub edge_high : (u ≡ I.low e → ⊥) → eqb u (I.high e) ≡ legal_edge I u e r
-        unfolding legal_edge
-        edge_high l = rw (h, lt-ltb u I.node_count g, lt-ltb e I.edge_count k, ne_eqb u (I.low e) l)
-
--- ---- positions
-
-module _ (I : Instance) (u k r : ℕ) where
-  pub position_no_share : legal_share r ≡ false → false ≡ legal_position I u k r
-  unfolding legal_position
-  position_no_share h = rw h
-
-  module _ (h : legal_share r ≡ true) where
-    pub position_no_node : I.node_count ≤ u → false ≡ legal_position I u k r
-    unfolding legal_position
-    position_no_node g = rw (h, le-ltb u I.node_count g)
-
-    module _ (g : u < I.node_count) where
-      pub position_none : I.degree u ≤ k → false ≡ legal_position I u k r
-      unfolding legal_position
-      position_none m = rw (h, lt-ltb u I.node_count g, le-ltb k (I.degree u) m)
-
-      pub position_some : k < I.degree u → exclusive (I.label (first I u + k)) ≡ legal_position I u k r
-      unfolding legal_position
-      position_some m = rw (h, lt-ltb u I.node_count g, lt-ltb k (I.degree u) m)
+    pub tests_on : k < m → x ≡ (a && b && ltb k m && x)
+    tests_on g = let (p, q) = and_true a b h in rw (p, q, lt-ltb k m g)
 
 -- ---- taken, or refused
 

@@ -1,6 +1,7 @@
 // A record of a list, and the messages: whether what each names exists, and then the move.
-ghost use Rattle.std.specs.Prelude.{◌≡◌, ◌≤◌, length};
+ghost use Rattle.std.specs.Prelude.{◌≡◌, ◌+◌, ◌<◌, ◌≤◌, ◌==◌, ◌&&◌, ◌||◌, length, nat_lt};
 ghost use Rattle.instance.specs.Refusal.{refused_in};
+ghost use Rattle.instance.specs.Instance.{exclusive, first};
 ghost use Rattle.instance.specs.Sheet.{instance_of};
 ghost use Rattle.rules.specs.Run.{kind_of, message, legal_share, legal_edge, legal_position};
 ghost use Rattle.messages.specs.Records.{kind_as, head_of, edge_message, label_message};
@@ -74,17 +75,37 @@ fn legal_share(share: u8) -> bool
     1 <= share && share <= 64
 }
 
+// Whether a node is an end of an edge.
+fn ends(sheet: &Sheet, u: usize, e: usize) -> bool
+    requires { e < sheet.now.edges }
+    ensures { result ≡ (u == (instance_of sheet.now.bytes.now).low e || u == (instance_of sheet.now.bytes.now).high e) }
+{
+    u == sheet.low(e) || u == sheet.high(e)
+}
+
+// Whether the label at a position of a node is not 255.
+fn exclusive_at(sheet: &Sheet, u: usize, k: usize) -> bool
+    requires { (u < sheet.now.nodes) × (k < (instance_of sheet.now.bytes.now).degree u) }
+    ensures { result ≡ exclusive ((instance_of sheet.now.bytes.now).label (first (instance_of sheet.now.bytes.now) u + k)) }
+{
+    let label = sheet.label(sheet.starts[u] + k);
+    exclusive(label)
+}
+
+// Whether the share and the node exist.
+fn legal_node(sheet: &Sheet, step: Record) -> bool
+    ensures { result ≡ (legal_share step.share && nat_lt step.node (instance_of sheet.now.bytes.now).node_count) }
+{
+    legal_share(step.share) && step.node < sheet.nodes
+}
+
 // Whether the share, the node and the edge exist, and the node is an end of the edge.
 fn legal_edge(sheet: &Sheet, step: Record) -> bool
     ensures { result ≡ legal_edge (instance_of sheet.now.bytes.now) step.node step.index step.share }
 {
-    let u = step.node;
-    let e = step.index;
-    if legal_share(step.share) {
-        if u < sheet.nodes {
-            if e < sheet.edges {
-                return u == sheet.low(e) || u == sheet.high(e);
-            }
+    if legal_node(sheet, step) {
+        if step.index < sheet.edges {
+            return ends(sheet, step.node, step.index);
         }
     }
     false
@@ -94,13 +115,9 @@ fn legal_edge(sheet: &Sheet, step: Record) -> bool
 fn legal_position(sheet: &Sheet, step: Record) -> bool
     ensures { result ≡ legal_position (instance_of sheet.now.bytes.now) step.node step.index step.share }
 {
-    let u = step.node;
-    if legal_share(step.share) {
-        if u < sheet.nodes {
-            if step.index < sheet.degree(u) {
-                let label = sheet.label(sheet.starts[u] + step.index);
-                return exclusive(label);
-            }
+    if legal_node(sheet, step) {
+        if step.index < sheet.degree(step.node) {
+            return exclusive_at(sheet, step.node, step.index);
         }
     }
     false
