@@ -10,5 +10,6 @@ pub mod RoundRecord
 pub mod Answers
 pub mod EdgeRecord
 pub mod Records
+pub mod Joints
 pub mod Step
 pub mod Turn
