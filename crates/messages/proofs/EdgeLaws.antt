@@ -11,10 +11,10 @@ use Rattle.integers.specs.Rows.{part}
 use Rattle.integers.proofs.Share.{share_toward, abs_le}
 use Rattle.integers.proofs.Places.{by_cond, if-true, if-false, length-tabulate, get_d_tabulate}
 use Rattle.integers.proofs.Ranges.{shifted, shifted_ext}
-use Rattle.integers.proofs.Rows.{length_part, get_d_part, within_map}
+use Rattle.integers.proofs.Rows.{length_part, get_d_part, within_part, within_map}
 use Rattle.integers.proofs.Checks.{below_ext}
 use Rattle.rules.specs.Calls.{cost_limit}
-use Rattle.messages.specs.EdgeMessage.{position_in, node_amounts, usable_of, places_at, usable_cells, cells_at, edge_amounts, taken_of, moved_row, moved_cells, moved_line, Shape, over}
+use Rattle.messages.specs.EdgeMessage.{position_in, node_amounts, usable_of, places_at, usable_cells, cells_at, edge_amounts, taken_of, moved_row, moved_cells, moved_line, Shape, Line, over}
 use Rattle.messages.proofs.RowLaws.{every_is, least_of_within, apart_within, neg_fits}
 use Rattle.messages.proofs.OverLaws.{over_zeros, every_made, below_rows}
 
@@ -54,6 +54,11 @@ module _ {w h : ℕ} {l : List ℤ} (s : Shape w h l) where
 
   pub row-length : (k : ℕ) → k < h → length (part l (k * w) w) ≡ w
   row-length k g = length_part l (k * w) w (row_end g refl)
+
+  pub row_line : Within cost_limit l → (k : ℕ) → k < h → Line k (part l (k * w) w)
+  row_line r k g =
+      let n = row-length k g in
+      record { few = omega (arith, s); place = omega (arith, s); range = within_part cost_limit (k * w) w l r }
 
   -- ---- the moves, row by row
 

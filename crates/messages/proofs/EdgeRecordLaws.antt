@@ -1,17 +1,17 @@
 -- Records of kinds 1 and 2: the amounts by position are the rules' amounts by place, so that what the code leaves of a row and a table is what the rules say.
 -- Assumes nothing.
-use Rattle.std.proofs.Common.{◌≡◌, ℕ, ◌+◌, ◌-◌, ◌*◌, ◌^◌, ◌<◌, ◌≤◌, Bool, true, false, cond, ◌&&◌, eqb, ltb, ◌⊎◌, List, ◌++◌, map, length, get_or, take, drop, ℤ, pos, ◌-ℤ◌, neg_ℤ, sym, refl, ap, ◌∙◌, ap₂, ⊎_elim, arith, lt-ltb, eqb-true}
+use Rattle.std.proofs.Common.{◌≡◌, ℕ, ◌+◌, ◌-◌, ◌*◌, ◌<◌, ◌≤◌, Bool, true, false, cond, ◌&&◌, eqb, ltb, ◌⊎◌, List, ◌++◌, map, length, get_or, take, drop, ℤ, pos, ◌-ℤ◌, neg_ℤ, sym, refl, ap, ◌∙◌, ap₂, ⊎_elim, arith, lt-ltb, eqb-true}
 use mathlib.Core.Path.{transport}
 use borrow.Author.Tests.{eqb-false}
+use borrow.Rule.Slice.PartMut.{put_mid}
 use Rattle.integers.specs.Least.{least_of}
 use Rattle.integers.specs.Share.{share, excess}
-use Rattle.integers.specs.Sum.{Within}
 use Rattle.integers.specs.Places.{select, every}
 use Rattle.integers.specs.Checks.{within}
 use Rattle.integers.specs.Rows.{part}
-use Rattle.integers.proofs.Places.{by_cond, of-cond, if-true, select_mem, get_d_tabulate}
-use Rattle.integers.proofs.Ranges.{range-part, eqb_same, select-map, shifted_ext}
-use Rattle.integers.proofs.Rows.{length_part, get_d_part, within_part, part_kept}
+use Rattle.integers.proofs.Places.{by_cond, of-cond, if-true, if-false, select_mem, get_d_tabulate}
+use Rattle.integers.proofs.Ranges.{range-part, eqb_same, select-map, shifted, shifted_ext}
+use Rattle.integers.proofs.Rows.{length_part, get_d_part, within_part, part_back, part_kept}
 use Rattle.index.proofs.Lists.{select_ext}
 use Rattle.instance.specs.Instance.{Instance, first, node_cells, table_size, table, edge_cells}
 use Rattle.instance.specs.Sheet.{instance_of, refusal_of}
@@ -28,20 +28,19 @@ use Rattle.instance.specs.declared.sheet.Sheet.{Sheet}
 use Rattle.instance.specs.Described.{labels_of}
 use Rattle.instance.proofs.Sheets as sheet
 use Rattle.messages.specs.Step.{Settled, settle, settled}
-use Rattle.messages.specs.EdgeMessage.{position_in, node_amounts, width_of, usable_of, usable_cells, cells_at, edge_amounts, moved_row, moved_cells, Ends}
-use Rattle.messages.specs.EdgeRecord.{EdgeMove, edge_move, edge_amount, given_row, given_cells, moved_by, edge_moved, EdgeLegal, Joined, amounts_of, parts_moved}
+use Rattle.messages.specs.EdgeMessage.{position_in, node_amounts, width_of, usable_of, usable_cells, cells_at, edge_amounts, taken_of, moved_row, moved_cells, moved_line, Line, Ends}
+use Rattle.messages.specs.EdgeRecord.{EdgeMove, edge_move, edge_amount, given_row, given_cells, moved_by, edge_moved, EdgeLegal, Joined, amounts_of, fit_parts, parts_moved}
 use Rattle.messages.proofs.SheetLaws.{proper}
 use Rattle.messages.proofs.EndLaws.{end_is, end_below, labels_length, width_is, both_sizes, usable_places_lem, cells-length, cells_at_lem, usable_below, usable_cells_lem, ends_of}
-use Rattle.messages.proofs.EdgeLaws.{node_within, edge_within}
+use Rattle.messages.proofs.EdgeLaws.{taken_row}
 
 -- the buffers once both lists are replaced, and what is answered
 abbrev pub edge_settled : Buffers → EdgeMove → Settled
 edge_settled b m = settle (lent m.nodes b.labels m.edges b.incumbent) 0 m.refusal
 
--- no amount passes twice the limit
-pub amounts_within : {row cells : List ℤ} {by_row : Bool} {own other : List ℕ} → Joined row cells by_row own other → (turned : Bool) (r : ℕ) → Within (2 ^ 41) (amounts_of turned by_row own other row cells r)
-amounts_within {row} {cells} {by_row} {own} {other} j true r = edge_within by_row own other cells r j.cell_range
-amounts_within {row} {cells} j false r = node_within row r j.row_range
+-- the row as the first of a table of one
+pub line_first : {row cells : List ℤ} {by_row : Bool} {own other : List ℕ} → Joined row cells by_row own other → Line 0 row
+line_first j = record { few = j.few; place = omega arith; range = j.row_range }
 
 -- the row from a to b and the table from c to d put back
 abbrev pub put_back : List ℤ → List ℤ → ℕ → ℕ → ℕ → ℕ → EdgeMove → EdgeMove
@@ -198,84 +197,125 @@ module _ (x : Sheet) {nodes edges : List ℤ} {u e r : ℕ} (g : EdgeLegal x.byt
   pub legal_edge_lem : e < 256
   legal_edge_lem = omega (arith, g.edge, sound.edges_few)
 
-  -- what the code reads: the labels of u, those of the other end, and whether u is the lower one
-  module _ {b : Bool} {own other : List ℕ} (eb : b ≡ eqb u (J.low e)) (eo : own ≡ labels_of s u) (et : other ≡ labels_of s (cond b (J.high e) (J.low e))) where
-    abbrev a : ℕ
-    a = get_or x.starts u 0
+-- what the code reads of the sheet for such a record: whether u is the lower end of e, its labels, and those of the other end
+pub record Found (x : Sheet) (nodes edges : List ℤ) (u e r : ℕ) (b : Bool) (own other : List ℕ) : Type 0 where
+  pub legal : EdgeLegal x.bytes.now nodes edges u e r
+  pub named : b ≡ eqb u ((instance_of x.bytes.now).low e)
+  pub own_is : own ≡ labels_of x.bytes.now u
+  pub other_is : other ≡ labels_of x.bytes.now (cond b ((instance_of x.bytes.now).high e) ((instance_of x.bytes.now).low e))
 
-    abbrev c : ℕ
-    c = get_or x.tables e 0
+module _ {x : Sheet} {nodes edges : List ℤ} {u e r : ℕ} {b : Bool} {own other : List ℕ} (f : Found x nodes edges u e r b own other) where
+  abbrev R : Instance
+  R = instance_of x.bytes.now
 
-    abbrev readable : refusal_of s ≡ 0
-    readable = x.readable
+  good : Proper R
+  good = sheet.proper x
 
-    ea : a ≡ first J u
-    ea = sheet.start_is x node_here
+  abbrev a : ℕ
+  a = get_or x.starts u 0
 
-    ec : c ≡ table J e
-    ec = sheet.table_is x edge_here
+  abbrev c : ℕ
+  c = get_or x.tables e 0
 
-    ed : length own ≡ J.degree u
-    ed = ap length eo ∙ labels_length s readable g.node
+  fa : a ≡ first R u
+  fa = sheet.start_is x (node_here x f.legal)
 
-    -- by the ends of the edge
-    own_is : own ≡ cond (eqb u (J.low e)) (labels_of s (J.low e)) (labels_of s (J.high e))
-    own_is =
-        eo ∙ by_cond (λ (l : List ℕ). labels_of s u ≡ l) (eqb u (J.low e)) (λ q. ap (labels_of s) (eqb-true u (J.low e) q))
-        (λ q. ⊎_elim (λ (z : u ≡ J.low e). absurd (eqb-false u (J.low e) q z)) (λ (z : u ≡ J.high e). ap (labels_of s) z) g.touches)
+  ec : c ≡ table R e
+  ec = sheet.table_is x (edge_here x f.legal)
 
-    other_is : other ≡ cond (eqb u (J.low e)) (labels_of s (J.high e)) (labels_of s (J.low e))
-    other_is = et ∙ of-cond (labels_of s) b (J.high e) (J.low e) ∙ ap (λ (t : Bool). cond t (labels_of s (J.high e)) (labels_of s (J.low e))) eb
+  ed : length own ≡ R.degree u
+  ed = ap length f.own_is ∙ labels_length x.bytes.now x.readable f.legal.node
 
-    ew : width_of b own other ≡ J.degree (J.high e)
-    ew = (λ j. width_of (eb j) (own_is j) (other_is j)) ∙ width_is s readable g.edge (eqb u (J.low e))
+  -- by the ends of the edge
+  own_here : own ≡ cond (eqb u (R.low e)) (labels_of x.bytes.now (R.low e)) (labels_of x.bytes.now (R.high e))
+  own_here =
+      f.own_is ∙ by_cond (λ (l : List ℕ). labels_of x.bytes.now u ≡ l) (eqb u (R.low e)) (λ q. ap (labels_of x.bytes.now) (eqb-true u (R.low e) q))
+      (λ q. ⊎_elim (λ (z : u ≡ R.low e). absurd (eqb-false u (R.low e) q z)) (λ (z : u ≡ R.high e). ap (labels_of x.bytes.now) z) f.legal.touches)
 
-    size : length own * length other ≡ table_size J e
-    size = ap₂ (λ (x y : List ℕ). length x * length y) own_is other_is ∙ both_sizes s readable g.edge (eqb u (J.low e))
+  other_here : other ≡ cond (eqb u (R.low e)) (labels_of x.bytes.now (R.high e)) (labels_of x.bytes.now (R.low e))
+  other_here = f.other_is ∙ of-cond (labels_of x.bytes.now) b (R.high e) (R.low e) ∙ ap (λ (t : Bool). cond t (labels_of x.bytes.now (R.high e)) (labels_of x.bytes.now (R.low e))) f.named
 
-    pub row_ends : a + length own ≤ length nodes
-    row_ends = omega (arith, ea, ed, row_inside J g.node, g.node_costs.size)
+  ew : width_of b own other ≡ R.degree (R.high e)
+  ew = (λ j. width_of (f.named j) (own_here j) (other_here j)) ∙ width_is x.bytes.now x.readable f.legal.edge (eqb u (R.low e))
 
-    pub table_ends : c + length own * length other ≤ length edges
-    table_ends = omega (arith, ec, size, table_inside J g.edge, g.edge_costs.size)
+  size : length own * length other ≡ table_size R e
+  size = ap₂ (λ (x y : List ℕ). length x * length y) own_here other_here ∙ both_sizes x.bytes.now x.readable f.legal.edge (eqb u (R.low e))
 
-    pub row_room : a + length own ≤ 1_024
-    row_room = omega (arith, row_ends, positions_few_lem sound, g.node_costs.size)
+  pub row_ends : a + length own ≤ length nodes
+  row_ends = omega (arith, fa, ed, row_inside R f.legal.node, f.legal.node_costs.size)
 
-    pub table_room : c + length own * length other ≤ 4_096
-    table_room = omega (arith, table_ends, sound.cells_few, g.edge_costs.size)
+  pub table_ends : c + length own * length other ≤ length edges
+  table_ends = omega (arith, ec, size, table_inside R f.legal.edge, f.legal.edge_costs.size)
 
-    row_size : a + length own - a ≡ length own
-    row_size = omega arith
+  pub row_room : a + length own ≤ 1_024
+  row_room = omega (arith, row_ends, positions_few_lem good, f.legal.node_costs.size)
 
-    table_size_lem : c + length own * length other - c ≡ length own * length other
-    table_size_lem = omega arith
+  pub table_room : c + length own * length other ≤ 4_096
+  table_room = omega (arith, table_ends, good.cells_few, f.legal.edge_costs.size)
 
-    abbrev cut : List ℤ
-    cut = part edges c (c + length own * length other - c)
+  row_size : a + length own - a ≡ length own
+  row_size = omega arith
 
-    cut-length : length cut ≡ table_size J e
-    cut-length = length_part edges c (c + length own * length other - c) (omega (arith, table_ends)) ∙ table_size_lem ∙ size
+  table_size_lem : c + length own * length other - c ≡ length own * length other
+  table_size_lem = omega arith
 
-    pub legal_joined : Joined (part nodes a (a + length own - a)) cut b own other
-    legal_joined =
-        let n = length_part nodes a (a + length own - a) (omega (arith, row_ends)) in
-        record {
-          some = omega (arith, ed, sound.labelled u g.node);
-          few = omega (arith, ed, sound.few u g.node);
-          ends = transport (λ j. Ends (sym eb j) (sym own_is j) (sym other_is j) cut) (ends_of s readable g.edge cut cut-length (eqb u (J.low e)));
-          row_range = within_part cost_limit a (a + length own - a) nodes g.node_costs.range;
-          cell_range = within_part cost_limit c (c + length own * length other - c) edges g.edge_costs.range;
-        }
+  abbrev cut : List ℤ
+  cut = part edges c (c + length own * length other - c)
 
-    pub legal_moved : (limit : ℕ) (turned : Bool)
-        → put_back nodes edges a (a + length own) c (c + length own * length other)
-        (parts_moved limit (amounts_of turned b own other (part nodes a (a + length own - a)) cut r) (part nodes a (a + length own - a)) cut b (width_of b own other))
-        ≡ edge_moved J nodes edges limit turned u e r
-    legal_moved limit turned =
+  cut-length : length cut ≡ table_size R e
+  cut-length = length_part edges c (c + length own * length other - c) (omega (arith, table_ends)) ∙ table_size_lem ∙ size
+
+  abbrev costs : List ℤ
+  costs = part nodes a (a + length own - a)
+
+  abbrev w : ℕ
+  w = width_of b own other
+
+  pub legal_joined : Joined costs cut b own other
+  legal_joined =
+      let n = length_part nodes a (a + length own - a) (omega (arith, row_ends)) in
+      record {
+        some = omega (arith, ed, good.labelled u f.legal.node);
+        few = omega (arith, ed, good.few u f.legal.node);
+        ends = transport (λ j. Ends (sym f.named j) (sym own_here j) (sym other_here j) cut) (ends_of x.bytes.now x.readable f.legal.edge cut cut-length (eqb u (R.low e)));
+        row_range = within_part cost_limit a (a + length own - a) nodes f.legal.node_costs.range;
+        cell_range = within_part cost_limit c (c + length own * length other - c) edges f.legal.edge_costs.range;
+      }
+
+  -- a move, by amounts that the code found
+  module _ (limit : ℕ) (turned : Bool) {amounts : List ℤ} (ea : amounts ≡ amounts_of turned b own other costs cut r) where
+    abbrev put : EdgeMove → EdgeMove
+    put = put_back nodes edges a (a + length own) c (c + length own * length other)
+
+    abbrev moved : EdgeMove
+    moved = edge_moved R nodes edges limit turned u e r
+
+    told : put (parts_moved limit amounts costs cut b w) ≡ moved
+    told =
         let sb = row_size ∙ ed in
         let sd = table_size_lem ∙ size in
-        (λ j. let row = part nodes (ea j) (sb j) in
-        let cells = part edges (ec j) (sd j) in
-        put_back nodes edges (ea j) (ea j + ed j) (ec j) (ec j + size j) (parts_moved limit (amounts_of turned (eb j) (own_is j) (other_is j) row cells r) row cells (eb j) (ew j)))
-        ∙ parts_are s readable nodes edges g.node_costs.size g.edge_costs.size g.node g.edge r turned limit g.touches
+        ap (λ (v : List ℤ). put (parts_moved limit v costs cut b w)) ea
+        ∙ (λ j. let k = part nodes (fa j) (sb j) in
+        let l = part edges (ec j) (sd j) in
+        put_back nodes edges (fa j) (fa j + ed j) (ec j) (ec j + size j) (parts_moved limit (amounts_of turned (f.named j) (own_here j) (other_here j) k l r) k l (f.named j) (ew j)))
+        ∙ parts_are x.bytes.now x.readable nodes edges f.legal.node_costs.size f.legal.edge_costs.size f.legal.node f.legal.edge r turned limit f.legal.touches
+
+    -- written, and refused
+    pub legal_written : fit_parts limit amounts b w costs cut ≡ true → {taken k l : List ℤ} {n : ℕ}
+        → taken ≡ taken_of amounts → k ≡ moved_line false 0 taken costs → n ≡ w → l ≡ moved_cells b n amounts cut
+        → edge_move 0 (put_mid a (a + length own - a) nodes k) (put_mid c (c + length own * length other - c) edges l) ≡ moved
+    unfolding parts_moved
+    legal_written t {taken} {k} {l} e p z q =
+        let row = p ∙ ap (λ (v : List ℤ). shifted (λ i. get_or v i (pos 0)) costs) e ∙ taken_row amounts costs legal_joined.few in
+        let table = q ∙ ap (λ (n : ℕ). moved_cells b n amounts cut) z in
+        (λ j. edge_move 0 (part_back a (a + length own) nodes k (omega arith) j) (part_back c (c + length own * length other) edges l (omega arith) j))
+        ∙ ap put ((λ j. edge_move 0 (row j) (table j)) ∙ sym (if-true _ _ t)) ∙ told
+
+    pub legal_kept : fit_parts limit amounts b w costs cut ≡ false → edge_move 13 nodes edges ≡ moved
+    unfolding parts_moved
+    legal_kept t =
+        (λ j. edge_move 13 (kept a (a + length own) nodes (omega arith) j) (kept c (c + length own * length other) edges (omega arith) j))
+        ∙ ap put (sym (if-false _ _ t)) ∙ told
+      where
+        kept : (m n : ℕ) (l : List ℤ) → m ≤ n → l ≡ take m l ++ (part l m (n - m) ++ drop n l)
+        kept m n l h = let z : m + (n - m) ≡ n = omega arith in sym (part_kept m (n - m) l) ∙ ap (λ (k : ℕ). take m l ++ (part l m (n - m) ++ drop k l)) z

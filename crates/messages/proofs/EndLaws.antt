@@ -2,11 +2,13 @@
 -- Assumes nothing.
 use Rattle.std.proofs.Common.{◌≡◌, ℕ, suc, ◌+◌, ◌-◌, ◌*◌, ◌/◌, ◌%◌, ◌<◌, ◌≤◌, Bool, true, false, cond, eqb, ◌⊎◌, List, map, length, get_or, ℤ, pos, sym, refl, ap, ◌∙◌, subst, ap₂, ⊎_elim, mod-lt, mul_comm, div-lt_iff_lt-mul, mul-le-mul_left, arith, eq-eqb, ne_eqb, eqb-true}
 use mathlib.Core.List.{map-map}
+use mathlib.Core.List.Memᴰ.{head as here}
+use mathlib.Core.List.Memᴰ.{tail as there}
 use mathlib.Core.List.{Memᴰ as Mem}
 use borrow.Author.Tests.{eqb-false}
 use Rattle.integers.specs.Rows.{part}
 use Rattle.integers.specs.Places.{range, select}
-use Rattle.integers.proofs.Places.{by_cond, range_mem, select_mem, map-ext}
+use Rattle.integers.proofs.Places.{by_cond, mem_range, range_mem, mem_select, select_mem, map-ext}
 use Rattle.integers.proofs.Ranges.{range_shift, select-map}
 use Rattle.integers.proofs.Rows.{length_part, get_d_part}
 use Rattle.index.proofs.Lists.{select_ext}
@@ -22,6 +24,11 @@ use Rattle.instance.specs.Described.{labels_of}
 use Rattle.messages.specs.Clash.{Rising}
 use Rattle.messages.specs.EdgeMessage.{position_in, width_of, usable_in, usable_of, usable_cells, Shape, Ends}
 use Rattle.messages.proofs.SheetLaws.{whole, proper}
+
+-- what has an element is not empty
+mem_some : {i : ℕ} {l : List ℕ} → Mem i l → 0 < length l
+mem_some (here e) = omega arith
+mem_some (there m) = omega arith
 
 -- ---- where u stands in the cell j of the table: at a position of its own
 
@@ -168,14 +175,15 @@ module _ (s : List ℕ) (r : refusal_of s ≡ 0) where
       unfolding table_size
       shape_of = record { wide = d_some; narrow = good.few high high_in; high = good.labelled low low_in; low = good.few low low_in; size = size }
 
-      some_cell : (b : Bool) → (j : ℕ) × (j < length cells) × (usable_in b (own b) (other b) j ≡ true)
+      some_cell : (b : Bool) → 0 < length (usable_of b (own b) (other b) (length cells))
       unfolding table_size cell
       some_cell b =
           let (k, i, hk, hi, x) = good.some_usable e h in
           let j = d * k + i in
           let m = mul-le-mul_left d hk in
           let l : j < I.degree low * d = omega arith in
-          (j, omega arith, usable_in_lem b j l ∙ ap₂ (λ (p q : ℕ). usable (I.label p) (I.label q)) (cell_row I e k i hi) (cell_column I e k i (good.ordered e h) hi) ∙ x)
+          mem_some (mem_select (usable_in b (own b) (other b)) (mem_range 0 (length cells) j (omega arith) (omega arith))
+          (usable_in_lem b j l ∙ ap₂ (λ (p q : ℕ). usable (I.label p) (I.label q)) (cell_row I e k i hi) (cell_column I e k i (good.ordered e h) hi) ∙ x))
 
       pub ends_of : (b : Bool) → Ends b (own b) (other b) cells
       ends_of b = record {

@@ -2,6 +2,7 @@
 -- Assumes nothing.
 use Rattle.std.proofs.Common.{◌≡◌, ℕ, ◌+◌, ◌-◌, ◌*◌, ◌/◌, ◌%◌, ◌<◌, ◌≤◌, Bool, true, false, cond, not, eqb, Option, None, Some, List, [], ◌∷◌, map, length, get_or, take, ℤ, pos, ◌-ℤ◌, neg_ℤ, nat_abs, ◌≤ℤ◌, ◌<ℤ◌, sym, refl, ap, ◌∙◌, ap₂, mod-lt, div-lt_iff_lt-mul, arith, eq-eqb, ne_eqb}
 use mathlib.Core.List.{map-append, map-map}
+use mathlib.Core.List.Memᴰ.{head as here}
 use mathlib.Core.List.{Memᴰ as Mem}
 use lib.Signed.{lt_z}
 use Rattle.integers.specs.Least.{min_ℤ, least_from, least_of, without}
@@ -18,7 +19,7 @@ use Rattle.index.proofs.Lists.{select_next, select_past}
 use Rattle.instance.specs.Instance.{usable}
 use Rattle.rules.specs.Calls.{cost_limit}
 use Rattle.messages.specs.Clash.{skipped, Skips}
-use Rattle.messages.specs.EdgeMessage.{position_in, width_of, usable_in, usable_of, places_at, usable_cells, cells_at, edge_amounts, left_of, Shape, Ends, over, line_at, unbounded, least_at, turned_least}
+use Rattle.messages.specs.EdgeMessage.{position_in, width_of, height_of, usable_in, usable_of, places_at, usable_cells, cells_at, edge_amounts, left_of, Shape, Ends, over, line_at, unbounded, least_at, turned_least}
 use Rattle.messages.proofs.ClashLaws.{skips_past}
 use Rattle.messages.proofs.RowLaws.{least_of_within}
 use Rattle.messages.proofs.OverLaws.{over_at, over-take, over_again, over_zeros}
@@ -128,6 +129,11 @@ line_left b {own} {other} {l} e k g {skip = None} x =
 
 -- ---- the positions of the end
 
+-- there is an element in what is not empty
+some_mem : (l : List ℕ) → 0 < length l → (j : ℕ) × Mem j l
+some_mem [] h = absurd (omega arith)
+some_mem (j ∷ l) h = (j, here refl)
+
 pub own_few : (b : Bool) {own other : List ℕ} {l : List ℤ} → Ends b own other l → length own ≤ 16
 own_few true e = e.shape.low
 own_few false e = e.shape.narrow
@@ -140,11 +146,9 @@ position_below : (b : Bool) {own other : List ℕ} {l : List ℤ} → Ends b own
 position_below true e j g = (div-lt_iff_lt-mul e.shape.wide).1 (omega (arith, e.shape.size))
 position_below false e j g = mod-lt j e.shape.wide
 
--- the table by the lengths of both ends' labels, and a position of the end in it
-pub sized : (b : Bool) {own other : List ℕ} {l : List ℤ} → Ends b own other l → {w h k : ℕ} → w ≡ width_of b own other → h ≡ cond b (length own) (length other) → k < length own
-    → Shape w h l × (k < cond b h w) × (length other ≡ cond b w h)
-sized true e p q g = rw (p, q) (e.shape, g, refl)
-sized false e p q g = rw (p, q) (e.shape, g, refl)
+-- the table by a width and a height that the code found
+pub shaped : {b : Bool} {own other : List ℕ} {l : List ℤ} → Ends b own other l → {w h : ℕ} → w ≡ width_of b own other → h ≡ height_of b own other → Shape w h l
+shaped e p q = rw (p, q) e.shape
 
 -- ---- the least of each position, and the least of all, which is that of them
 
@@ -182,10 +186,9 @@ module _ {b : Bool} {own other : List ℕ} {l : List ℤ} (e : Ends b own other 
   edge_least_lem =
       let n = length own in
       let g = least_at b own other l in
-      let some = e.some in
       ap least_of (over-take g n zeros)
       ∙ le_antisymm
-      (le_least_of_mem cost (mem_select (usable_in b own other) (mem_range 0 (length l) some.0 (omega arith) (omega (arith, some.1))) some.2)
+      (le_least_of_mem cost (some_mem (usable_of b own other (length l)) e.some).1
       (λ j m. le_trans (least_of_mem g (mem_range 0 n (stands j) (omega arith) (omega (arith, below m))))
       (least_mem cost unbounded (mem_select (at (stands j)) m (eq-eqb (stands j) (stands j) refl)))))
       (le_least_of_mem g (mem_range 0 n 0 (omega arith) (omega (arith, own_some b e))) (λ k _. order k))

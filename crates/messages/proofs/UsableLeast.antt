@@ -2,15 +2,12 @@
 -- Assumes nothing.
 use Rattle.std.proofs.Common.{◌≡◌, ℕ, ◌+◌, ◌-◌, ◌*◌, ◌<◌, ◌≤◌, Bool, true, false, not, eqb, ltb, None, List, ◌++◌, map, length, get_or, take, drop, ℤ, pos, sym, refl, ap, ◌∙◌, append-nil, arith, ltb-false, ltb-true, eq-eqb, ne_eqb}
 use mathlib.Core.List.{map-append}
-use mathlib.Core.List.Memᴰ.{head as here}
-use mathlib.Core.List.Memᴰ.{tail as there}
-use mathlib.Core.List.{Memᴰ as Mem}
 use lib.ListN.{length-map}
 use Rattle.integers.specs.Least.{least_from, least_of}
 use Rattle.integers.specs.Sum.{Within}
 use Rattle.integers.specs.Places.{range, select}
 use Rattle.integers.proofs.Least.{least_append}
-use Rattle.integers.proofs.Places.{by-test, mem_range, range_mem, mem_select}
+use Rattle.integers.proofs.Places.{by-test, range_mem}
 use Rattle.integers.proofs.Ranges.{range_add, range-part, select_append, select_all, select_none}
 use Rattle.integers.proofs.Rows.{within_map}
 use Rattle.rules.specs.Calls.{cost_limit}
@@ -90,15 +87,7 @@ module _ {t : ℕ → Bool} {x : ℤ} {l : List ℤ} {best : ℤ} {from upto : �
 
 pub usable_some : {b : Bool} {own other : List ℕ} {cells : List ℤ} → Ends b own other cells → 0 < length (usable_cells b own other cells)
 usable_some {b} {own} {other} {cells} e =
-    let n = length cells in
-    let (j, h, u) = e.some in
-    let q = some_length (mem_select (usable_in b own other) (mem_range 0 n j (omega arith) (omega arith)) u) in
-    let z = length-map (usable_of b own other n) (λ i. get_or cells i (pos 0)) in
-    omega arith
-  where
-    some_length : {i : ℕ} {l : List ℕ} → Mem i l → 0 < length l
-    some_length (here e) = omega arith
-    some_length (there m) = omega arith
+    let z = length-map (usable_of b own other (length cells)) (λ i. get_or cells i (pos 0)) in omega (arith, e.some)
 
 -- a walk over the rows, of which k are behind: the next begins at `row`
 pub record Passing (low high : List ℕ) (cells : List ℤ) (best : ℤ) (from row k : ℕ) : Type 0 where

@@ -1,12 +1,21 @@
 -- Messages between one row of node costs and one edge's table of cells: what is given, and both lists once it is given. Document 01, kinds 1 and 2.
-use Rattle.std.specs.Prelude.{◌≡◌, ℕ, ◌+◌, ◌-◌, ◌*◌, ◌/◌, ◌%◌, ◌^◌, ◌<◌, ◌≤◌, Bool, true, cond, not, Option, None, Some, List, ◌++◌, map, length, get_or, drop, ℤ, pos, ◌-ℤ◌, neg_ℤ, int_lt, nat_eq, nat_lt, slice_index, slice_index_or}
+use Rattle.std.specs.Prelude.{◌≡◌, ℕ, ◌+◌, ◌-◌, ◌*◌, ◌/◌, ◌%◌, ◌^◌, ◌<◌, ◌≤◌, Bool, true, false, cond, not, Option, None, Some, List, ◌++◌, map, length, get_or, drop, ℤ, pos, ◌-ℤ◌, neg_ℤ, int_lt, nat_eq, nat_lt, slice_index, slice_index_or}
 use Rattle.integers.specs.Least.{least_from, least_of, without}
 use Rattle.integers.specs.Share.{share, excess}
+use Rattle.integers.specs.Sum.{Within}
 use Rattle.integers.specs.Places.{tabulate, select, range}
 use Rattle.integers.specs.Rows.{part}
 use Rattle.integers.proofs.Ranges.{shifted}
 use Rattle.instance.specs.Instance.{usable}
+use Rattle.rules.specs.Calls.{cost_limit}
 use Rattle.messages.specs.Clash.{Rising}
+use Rattle.messages.specs.declared.end.End.{End}
+use Rattle.messages.specs.declared.end.End.TheVariants.{Lower, Higher}
+
+-- whether each position of an end has a row of the table, and not a column
+abbrev pub by_rows : End → Bool
+by_rows Lower = true
+by_rows Higher = false
 
 -- where u stands in the cell j: rows for the lower end, columns for the higher
 abbrev pub position_in : Bool → ℕ → ℕ → ℕ
@@ -21,6 +30,9 @@ node_amounts row r = tabulate 16 (λ k. cond (nat_lt k (length row)) (share (sli
 -- `own` has the labels of the end that a record names, `other` those of the other end. A table has as many columns as the higher end has labels
 abbrev pub width_of : Bool → List ℕ → List ℕ → ℕ
 width_of by_row own other = cond by_row (length other) (length own)
+
+abbrev pub height_of : Bool → List ℕ → List ℕ → ℕ
+height_of by_row own other = cond by_row (length own) (length other)
 
 -- whether the cell j is usable, by the labels that the two ends have there
 abbrev pub usable_in : Bool → List ℕ → List ℕ → ℕ → Bool
@@ -76,6 +88,12 @@ over f n l = tabulate n f ++ drop n l
 abbrev pub moved_line : Bool → ℕ → List ℤ → List ℤ → List ℤ
 moved_line by_row k amounts line = shifted (λ j. get_or amounts (cond by_row k j) (pos 0)) line
 
+-- such a row: few costs, each within the limit
+pub record Line (k : ℕ) (line : List ℤ) : Type 0 where
+  pub few : length line ≤ 16
+  pub place : k < 16
+  pub range : Within cost_limit line
+
 -- above every cost: the least of no cells
 abbrev pub unbounded : ℤ
 unbounded = pos (2 ^ 63 - 1)
@@ -99,6 +117,6 @@ turned_least cost low r = cond (int_lt cost unbounded) (neg_ℤ (share (cost -�
 
 -- an edge's table with the labels of its ends, of which the other's rise; a cell of it is usable
 pub record Ends (by_row : Bool) (own other : List ℕ) (cells : List ℤ) : Type 0 where
-  pub shape : Shape (width_of by_row own other) (cond by_row (length own) (length other)) cells
+  pub shape : Shape (width_of by_row own other) (height_of by_row own other) cells
   pub rises : Rising other
-  pub some : (j : ℕ) × (j < length cells) × (usable_in by_row own other j ≡ true)
+  pub some : 0 < length (usable_of by_row own other (length cells))

@@ -10,6 +10,7 @@ pub mod RoundRecord
 pub mod Answers
 pub mod EdgeRecord
 pub mod Records
+pub mod Joints
 pub mod Step
 pub mod State
 pub mod Turn

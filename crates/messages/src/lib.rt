@@ -1,12 +1,14 @@
 // Moving costs: opening, running a list of records, reporting. Document 01, "The costs that move", "Records", "Reporting".
 #![tactic(auto)]
 
+mod amounts;
 pub mod answers;
 mod bound;
 mod checked;
 mod clash;
 mod edge_message;
 mod edge_record;
+mod end;
 mod filling;
 mod incumbent;
 mod label_message;

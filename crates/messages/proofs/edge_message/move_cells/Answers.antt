@@ -2,17 +2,15 @@
 use Rattle.std.proofs.Common.{◌≡◌, ℕ, ◌+◌, ◌-◌, ◌*◌, ◌<◌, ◌≤◌, List, length, get_or, take, drop, ℤ, pos, refl, ap, ◌∙◌, ap₂, zero-mul, arith}
 use borrow.Rule.Slice.PartMut.{put_mid}
 use Rattle.integers.specs.Rows.{part}
-use Rattle.integers.proofs.Rows.{within_part}
-use Rattle.rules.specs.Calls.{cost_limit}
-use Rattle.messages.specs.EdgeMessage.{position_in, moved_line}
+use Rattle.messages.specs.EdgeMessage.{by_rows, position_in, moved_line}
 use Rattle.messages.proofs.OverLaws.{written_none, written_length, written_drop, written_part, raised_all}
-use Rattle.messages.proofs.EdgeLaws.{row_end, row_part, row-length, line_at_lem, line_length}
+use Rattle.messages.proofs.EdgeLaws.{row_end, row_part, row_line, line_at_lem, line_length}
 use Rattle.messages.proofs.edge_message.move_cells.Goals as goal
 use Rattle.messages.proofs.edge_message.move_cells.Goals.{In-loop-k, Start}
 
 -- the amount of a cell
 abbrev f : Start → ℕ → ℤ
-f q j = get_or q.args.amounts.now (position_in q.args.by_row q.args.width j) (pos 0)
+f q j = get_or q.args.amounts.now.each (position_in (by_rows q.args.end) q.args.width j) (pos 0)
 
 -- the row of this turn: it ends within the table, and it is the row k as it was
 module _ (c : In-loop-k) where
@@ -26,15 +24,13 @@ module _ (c : In-loop-k) where
   line = ap (take (c.loop-k.k * q.args.width + q.args.width - c.loop-k.k * q.args.width)) (written_drop c.loop-k.invariant) ∙ row_part q.requires.shape c.loop-k.k refl
 
 pub move_line-requires : goal.move_line-requires
-move_line-requires c =
-    let n = row-length c.requires.shape c.loop-k.k (omega arith) in
-    rw (line (goal.at.move_line-requires c).In-loop-k) record { line_len_bound = (omega (arith, c.requires.shape), omega (arith, c.requires.shape)); within = within_part cost_limit (c.loop-k.k * c.args.width) c.args.width c.args.cells.now c.requires.within; within_2 = c.requires.within_2 }
+move_line-requires c = rw (line (goal.at.move_line-requires c).In-loop-k) (row_line c.requires.shape c.requires.within c.loop-k.k (omega arith))
 
 pub loop-k-preserved : goal.loop-k-preserved
 loop-k-preserved c =
     let i = (goal.at.loop-k-preserved c).In-loop-k in let s = c.requires.shape in
-    let v = c.args.amounts.now in
-    let b = c.args.by_row in
+    let v = c.args.amounts.now.each in
+    let b = by_rows c.args.end in
     let k = c.loop-k.k in
     let a = k * c.args.width in
     let m = moved_line b k v (part c.args.cells.now (k * c.args.width) c.args.width) in

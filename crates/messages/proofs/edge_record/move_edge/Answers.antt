@@ -1,15 +1,15 @@
 -- `move_edge` meets its contract: the sheet says where the row, the table and the labels of both ends stand, and the parts move as the rules say.
-use Rattle.std.proofs.Common.{◌≡◌, ℕ, ◌+◌, ◌*◌, ◌<◌, Bool, cond, eqb, List, length, get_or, sym, ap, ◌∙◌, subst, arith}
+use Rattle.std.proofs.Common.{◌≡◌, ℕ, ◌<◌, Bool, cond, eqb, List, sym, ap, ◌∙◌, subst, arith}
 use Rattle.integers.proofs.Places.{by_cond}
-use Rattle.integers.proofs.Rows.{part_back}
 use Rattle.instance.specs.declared.sheet.Sheet.{Sheet}
 use Rattle.instance.specs.Instance.{Instance}
 use Rattle.instance.specs.Sheet.{instance_of}
 use Rattle.instance.specs.Described.{labels_of}
-use Rattle.instance.specs.Refusal.{refused_in}
-use Rattle.messages.specs.EdgeRecord.{edge_move, EdgeLegal}
+use Rattle.messages.specs.EdgeMessage.{by_rows}
+use Rattle.messages.specs.EdgeRecord.{EdgeLegal}
 use Rattle.messages.specs.Records.{to_node}
-use Rattle.messages.proofs.EdgeRecordLaws.{node_here, edge_here, legal_node, legal_edge_lem, row_ends, table_ends, row_room, table_room, legal_joined, put_back, legal_moved}
+use Rattle.messages.proofs.UsableLaws.{shaped}
+use Rattle.messages.proofs.EdgeRecordLaws.{node_here, edge_here, legal_node, legal_edge_lem, Found, row_ends, table_ends, row_room, table_room, line_first, legal_joined, legal_written, legal_kept}
 use Rattle.messages.proofs.edge_record.move_edge.Goals as goal
 use Rattle.messages.proofs.edge_record.move_edge.Goals.{After-either-w, After-labels_of-other, Start}
 
@@ -27,11 +27,12 @@ module _ (o : After-either-w) where
   abbrev g : EdgeLegal x.bytes.now q.args.nodes.now q.args.edges.now q.args.step.node q.args.step.index q.args.step.share
   g = q.requires
 
+  -- whether it is the lower one
   abbrev b : Bool
-  b = eqb q.args.step.node o.low-low.result
+  b = by_rows o.of-end.result
 
   named : b ≡ eqb q.args.step.node (I.low q.args.step.index)
-  named = ap (eqb q.args.step.node) o.low-low.ensures.0
+  named = o.of-end.ensures ∙ ap (eqb q.args.step.node) o.low-low.ensures.0
 
   end : o.either-w.result ≡ cond b (I.high q.args.step.index) (I.low q.args.step.index)
   end = o.either-w.ensures ∙ (λ j. cond b (o.high.ensures.0 j) (o.low-low.ensures.0 j))
@@ -62,26 +63,37 @@ module _ (p : After-labels_of-other) where
   abbrev other : List ℕ
   other = p.labels_of-other.result.now
 
-  own_is : own ≡ labels_of (x o).bytes.now (q o).args.step.node
-  own_is = p.labels_of-own.ensures
+  found : Found (x o) (q o).args.nodes.now (q o).args.edges.now (q o).args.step.node (q o).args.step.index (q o).args.step.share (b o) own other
+  found = record {
+    legal = (q o).requires;
+    named = named o;
+    own_is = p.labels_of-own.ensures;
+    other_is = p.labels_of-other.ensures ∙ ap (labels_of (x o).bytes.now) (end o);
+  }
 
-  other_is : other ≡ labels_of (x o).bytes.now (cond (b o) ((I o).high (q o).args.step.index) ((I o).low (q o).args.step.index))
-  other_is = p.labels_of-other.ensures ∙ ap (labels_of (x o).bytes.now) (end o)
+pub invariant_of-joint : goal.invariant_of-joint
+invariant_of-joint c = let p = (goal.at.invariant_of-joint c).After-labels_of-other in record { joined = legal_joined (found p) }
 
-pub move_parts-requires : goal.move_parts-requires
-move_parts-requires c =
-    let p = (goal.at.move_parts-requires c).After-labels_of-other in
-    record { joined = legal_joined (x (o p)) (g (o p)) (named (o p)) (own_is p) (other_is p); le_share = (g (o p)).shares }
+pub amounts-amounts-requires : goal.amounts-amounts-requires
+amounts-amounts-requires c = c.requires.shares
 
-pub returns : goal.returns
-returns c =
-    let p = (goal.at.returns c).After-labels_of-other in let y = (q (o p)).args in
-    let a = get_or (x (o p)).starts y.step.node 0 in
-    let e = a + length (own p) in
-    let t = get_or (x (o p)).tables y.step.index 0 in
-    let d = t + length (own p) * length (other p) in
-    (λ i. edge_move (refused_in c.move_parts.result) (part_back a e y.nodes.now c.move_parts.new.row (omega arith) i) (part_back t d y.edges.now c.move_parts.new.cells (omega arith) i))
-    ∙ ap (put_back y.nodes.now y.edges.now a e t d) c.move_parts.ensures ∙ legal_moved (x (o p)) (g (o p)) (named (o p)) (own_is p) (other_is p) y.limit.most (to_node y.flow)
+pub move_line-requires : goal.move_line-requires
+move_line-requires c = line_first (legal_joined (found (goal.at.move_line-requires c).After-labels_of-other))
+
+pub move_cells-requires : goal.move_cells-requires
+move_cells-requires c =
+    let j = legal_joined (found (goal.at.move_cells-requires c).After-labels_of-other) in
+    record { shape = shaped j.ends c.width-width.ensures c.height-height.ensures; within = j.cell_range }
+
+pub returns-then-fits : goal.returns-then-fits
+returns-then-fits c =
+    let p = (goal.at.returns-then-fits c).After-labels_of-other in let y = (q (o p)).args in
+    legal_written (found p) y.limit.most (to_node y.flow) c.amounts-amounts.ensures (sym c.fits.ensures ∙ c.if-fits.true) c.negated-taken.ensures c.move_line.ensures c.width-width.ensures c.move_cells.ensures
+
+pub returns-else-fits : goal.returns-else-fits
+returns-else-fits c =
+    let p = (goal.at.returns-else-fits c).After-labels_of-other in let y = (q (o p)).args in
+    legal_kept (found p) y.limit.most (to_node y.flow) c.amounts-amounts.ensures (sym c.fits.ensures ∙ c.if-fits.false)
 
 pub offset_bounds-sheet-u : goal.offset_bounds-sheet-u
 offset_bounds-sheet-u c = omega (arith, legal_node (x (o c)) (g (o c)))
@@ -90,7 +102,7 @@ pub bounds-sheet-u : goal.bounds-sheet-u
 bounds-sheet-u c = let p = (goal.at.bounds-sheet-u c).After-labels_of-other in legal_node (x (o p)) (g (o p))
 
 pub overflow_add-b : goal.overflow_add-b
-overflow_add-b c = let p = (goal.at.overflow_add-b c).After-labels_of-other in record { fits = omega (arith, row_room (x (o p)) (g (o p)) (named (o p)) (own_is p) (other_is p)) }
+overflow_add-b c = let p = (goal.at.overflow_add-b c).After-labels_of-other in record { fits = omega (arith, row_room (found p)) }
 
 pub offset_bounds-sheet-e : goal.offset_bounds-sheet-e
 offset_bounds-sheet-e c = let p = (goal.at.offset_bounds-sheet-e c).After-labels_of-other in omega (arith, legal_edge_lem (x (o p)) (g (o p)))
@@ -99,19 +111,19 @@ pub bounds-sheet-e : goal.bounds-sheet-e
 bounds-sheet-e c = let p = (goal.at.bounds-sheet-e c).After-labels_of-other in legal_edge_lem (x (o p)) (g (o p))
 
 pub overflow_mul-d : goal.overflow_mul-d
-overflow_mul-d c = let p = (goal.at.overflow_mul-d c).After-labels_of-other in record { fits = omega (arith, table_room (x (o p)) (g (o p)) (named (o p)) (own_is p) (other_is p)) }
+overflow_mul-d c = let p = (goal.at.overflow_mul-d c).After-labels_of-other in record { fits = omega (arith, table_room (found p)) }
 
 pub overflow_add-d : goal.overflow_add-d
-overflow_add-d c = let p = (goal.at.overflow_add-d c).After-labels_of-other in record { fits = omega (arith, table_room (x (o p)) (g (o p)) (named (o p)) (own_is p) (other_is p)) }
+overflow_add-d c = let p = (goal.at.overflow_add-d c).After-labels_of-other in record { fits = omega (arith, table_room (found p)) }
 
 pub offset_bounds-nodes-a : goal.offset_bounds-nodes-a
-offset_bounds-nodes-a c = let p = (goal.at.offset_bounds-nodes-a c).After-labels_of-other in omega (arith, row_room (x (o p)) (g (o p)) (named (o p)) (own_is p) (other_is p))
+offset_bounds-nodes-a c = let p = (goal.at.offset_bounds-nodes-a c).After-labels_of-other in omega (arith, row_room (found p))
 
-pub slice_bounds-move_parts-end : goal.slice_bounds-move_parts-end
-slice_bounds-move_parts-end c = let p = (goal.at.slice_bounds-move_parts-end c).After-labels_of-other in row_ends (x (o p)) (g (o p)) (named (o p)) (own_is p) (other_is p)
+pub slice_bounds-joint-end : goal.slice_bounds-joint-end
+slice_bounds-joint-end c = let p = (goal.at.slice_bounds-joint-end c).After-labels_of-other in row_ends (found p)
 
 pub offset_bounds-edges-c : goal.offset_bounds-edges-c
-offset_bounds-edges-c c = let p = (goal.at.offset_bounds-edges-c c).After-labels_of-other in omega (arith, table_room (x (o p)) (g (o p)) (named (o p)) (own_is p) (other_is p))
+offset_bounds-edges-c c = let p = (goal.at.offset_bounds-edges-c c).After-labels_of-other in omega (arith, table_room (found p))
 
-pub slice_bounds-move_parts-end-2 : goal.slice_bounds-move_parts-end-2
-slice_bounds-move_parts-end-2 c = let p = (goal.at.slice_bounds-move_parts-end-2 c).After-labels_of-other in table_ends (x (o p)) (g (o p)) (named (o p)) (own_is p) (other_is p)
+pub slice_bounds-joint-end-2 : goal.slice_bounds-joint-end-2
+slice_bounds-joint-end-2 c = let p = (goal.at.slice_bounds-joint-end-2 c).After-labels_of-other in table_ends (found p)

@@ -1,0 +1,38 @@
+-- A node's row and an edge's table as the code has them in one value: what its parts are, and what a message makes of them.
+use Rattle.std.specs.Prelude.{ℕ, Bool, false, List, ℤ}
+use Rattle.messages.specs.declared.edge_message.Joint.{Joint}
+use Rattle.messages.specs.declared.records.Flow.{Flow}
+use Rattle.messages.specs.EdgeMessage.{by_rows, width_of, height_of, line_at, least_at, moved_cells}
+use Rattle.messages.specs.EdgeRecord.{amounts_of, fit_parts}
+use Rattle.messages.specs.Records.{to_node}
+
+module _ (j : Joint) where
+  -- the table has so many columns, and so many rows
+  abbrev pub columns : ℕ
+  columns = width_of (by_rows j.end) j.own.now j.other.now
+
+  abbrev pub rows : ℕ
+  rows = height_of (by_rows j.end) j.own.now j.other.now
+
+  -- one of its columns
+  abbrev pub column_in : ℕ → List ℤ
+  column_in = line_at false columns rows j.cells.now
+
+  -- the cells with the end at a position: a row, or a column
+  abbrev pub line_in : ℕ → List ℤ
+  line_in = line_at (by_rows j.end) columns rows j.cells.now
+
+  -- the least usable one of them
+  abbrev pub least_in : ℕ → ℤ
+  least_in = least_at (by_rows j.end) j.own.now j.other.now j.cells.now
+
+  -- what each position gives
+  abbrev pub given_in : Flow → ℕ → List ℤ
+  given_in flow = amounts_of (to_node flow) (by_rows j.end) j.own.now j.other.now j.row.now j.cells.now
+
+  -- the cells once each has received its amount, and whether the row and they stay within a limit
+  abbrev pub cells_with : List ℤ → List ℤ
+  cells_with amounts = moved_cells (by_rows j.end) columns amounts j.cells.now
+
+  abbrev pub fit_in : ℕ → List ℤ → Bool
+  fit_in limit amounts = fit_parts limit amounts (by_rows j.end) columns j.row.now j.cells.now
