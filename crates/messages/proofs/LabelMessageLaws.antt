@@ -16,7 +16,7 @@ use Rattle.instance.specs.Instance.{Instance, first, node_cells}
 use Rattle.instance.proofs.LaidOut.{row_inside}
 use Rattle.rules.specs.Places.{node_places, label_places}
 use Rattle.rules.specs.Calls.{cost_limit}
-use Rattle.messages.specs.LabelMessage.{label_rival, label_move, label_moved, node_amount, label_amount, PlaceAsked}
+use Rattle.messages.specs.LabelMessage.{label_rival, label_move, label_moved, node_amount, label_amount}
 use Rattle.messages.proofs.RowLaws.{least_of_within, amount_none}
 
 -- what a cost within the limit gives against such rivals
@@ -25,19 +25,21 @@ amount_fits x [] r h g = rw (sym (amount_none x [] r refl)) (omega arith)
 amount_fits x (y ∷ ys) r h g =
     omega (arith, abs_le (amount_toward x (y ∷ ys) r (omega arith)), least_of_within cost_limit (y ∷ ys) g, sub x (least_of (y ∷ ys)), abs x, abs (least_of (y ∷ ys)), abs (x -ℤ least_of (y ∷ ys)))
 
--- a record's place in the costs of all places
-module _ {I : Instance} {u k share : ℕ} (q : PlaceAsked I u k share) (l : List ℤ) (size : length l ≡ node_cells I) where
-  pub row_in : first I u + I.degree u ≤ length l
-  row_in = omega (arith, size, row_inside I q.node)
+-- a node's row and a place of it in the costs of all places
+module _ (I : Instance) {u : ℕ} (node : u < I.node_count) where
+  pub row_in : (l : List ℤ) → length l ≡ node_cells I → first I u + I.degree u ≤ length l
+  row_in l size = omega (arith, size, row_inside I node)
 
-  pub place_in : first I u + k < length l
-  place_in = omega (arith, row_in, q.position)
+  module _ {k : ℕ} (position : k < I.degree u) where
+    pub place_in : (l : List ℤ) → length l ≡ node_cells I → first I u + k < length l
+    place_in l size = omega (arith, row_in l size, position)
 
-  pub node_given : amount (get_or (part l (first I u) (I.degree u)) k (pos 0)) (without (part l (first I u) (I.degree u)) k) share ≡ node_amount I l u (first I u + k) share
-  unfolding node_places
-  node_given =
-      ap₂ (λ (x : ℤ) (rivals : List ℤ). amount x rivals share) (get_d_part l (first I u) (I.degree u) k (pos 0) q.position)
-      (sym (others-part l (pos 0) (first I u) (I.degree u) k row_in))
+    pub node_given : (share : ℕ) (l : List ℤ) → length l ≡ node_cells I
+        → amount (get_or (part l (first I u) (I.degree u)) k (pos 0)) (without (part l (first I u) (I.degree u)) k) share ≡ node_amount I l u (first I u + k) share
+    unfolding node_places
+    node_given share l size =
+        ap₂ (λ (x : ℤ) (rivals : List ℤ). amount x rivals share) (get_d_part l (first I u) (I.degree u) k (pos 0) position)
+        (sym (others-part l (pos 0) (first I u) (I.degree u) k (row_in l size)))
 
 module _ (I : Instance) (l : List ℤ) (h : Within cost_limit l) where
   -- the costs at some places

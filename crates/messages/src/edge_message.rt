@@ -16,25 +16,25 @@ use crate::records::Flow;
 use crate::rows::{
     OUT, UNBOUNDED, all_half, excess, least, least_but, least_of, less_at, share_of,
 };
+use crate::share::Share;
 
 // What the least of a position gives down to the least of all, turned round, and 0 if it has no usable cell.
-fn turned_least(cost: i64, low: i64, r: u8) -> i64
-    requires le_r { 1 ≤ r }
-    requires cost_bound { (cost <ℤ unbounded → unsigned_abs cost ≤ cost_limit) × (unsigned_abs low ≤ cost_limit) }
-    ensures { result ≡ turned_least cost low r }
+fn turned_least(cost: i64, low: i64, share: Share) -> i64
+    requires { (cost <ℤ unbounded → unsigned_abs cost ≤ cost_limit) × (unsigned_abs low ≤ cost_limit) }
+    ensures { result ≡ turned_least cost low share.parts }
 {
     if cost < UNBOUNDED {
-        share_of(low, cost, r)
+        share_of(low, cost, share)
     } else {
         0
     }
 }
 
 // What each least of a position gives.
-fn turn_all(least: &mut [i64], low: i64, share: u8)
-    requires le_share { (1 ≤ share) × (unsigned_abs low ≤ cost_limit) }
+fn turn_all(least: &mut [i64], low: i64, share: Share)
+    requires low_bound { unsigned_abs low ≤ cost_limit }
     requires by_index { (k : ℕ) → k < length least.old → slice_index_or least.old k (pos 0) <ℤ unbounded → unsigned_abs (slice_index_or least.old k (pos 0)) ≤ cost_limit }
-    ensures { least.new ≡ tabulate (length least.old) (λ k. turned_least (slice_index_or least.old k (pos 0)) low share) }
+    ensures { least.new ≡ tabulate (length least.old) (λ k. turned_least (slice_index_or least.old k (pos 0)) low share.parts) }
 {
     for cost in least.iter_mut() {
         *cost = turned_least(*cost, low, share);
@@ -134,9 +134,8 @@ impl Joint<'_> {
     }
 
     // What each position of the node gives.
-    fn node_amounts(&self, share: u8) -> Amounts
-        requires { 1 ≤ share }
-        ensures { result.each ≡ node_amounts self.now.row.now share }
+    fn node_amounts(&self, share: Share) -> Amounts
+        ensures { result.each ≡ node_amounts self.now.row.now share.parts }
     {
         let low = least_of(self.row);
         let mut amounts = [0; 16];
@@ -193,9 +192,8 @@ impl Joint<'_> {
     }
 
     // What each position of the edge's end gives.
-    fn edge_amounts(&self, share: u8) -> Amounts
-        requires { 1 ≤ share }
-        ensures { result.each ≡ edge_amounts (by_rows self.now.end) self.now.own.now self.now.other.now self.now.cells.now share }
+    fn edge_amounts(&self, share: Share) -> Amounts
+        ensures { result.each ≡ edge_amounts (by_rows self.now.end) self.now.own.now self.now.other.now self.now.cells.now share.parts }
     {
         let mut amounts = self.least_by();
         let many = self.own.len();
@@ -205,9 +203,8 @@ impl Joint<'_> {
     }
 
     // What each position of the node gives, or turned round what each position of the edge's end does.
-    pub(crate) fn amounts(&self, flow: Flow, share: u8) -> Amounts
-        requires { 1 ≤ share }
-        ensures { result.each ≡ given_in self.now flow share }
+    pub(crate) fn amounts(&self, flow: Flow, share: Share) -> Amounts
+        ensures { result.each ≡ given_in self.now flow share.parts }
     {
         match flow {
             Flow::FromNode => self.node_amounts(share),

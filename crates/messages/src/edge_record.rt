@@ -9,6 +9,7 @@ use crate::edge_message::{Joint, move_cells, move_line};
 use crate::end::End;
 use crate::limit::Limit;
 use crate::records::{Flow, Record};
+use crate::share::Share;
 use instance::{Refusal, Sheet};
 
 // A record of kind 1 between its node and its edge, or turned round of kind 2: the amounts, the tests, and then the writes.
@@ -41,7 +42,8 @@ pub(crate) fn move_edge(
         own,
         other,
     };
-    let amounts = joint.amounts(flow, step.share);
+    let share = Share { parts: step.share };
+    let amounts = joint.amounts(flow, share);
     let taken = amounts.negated();
     if joint.fits(&amounts, &taken, limit) {
         let width = joint.width();

@@ -13,6 +13,7 @@ ghost use Rattle.messages.specs.State.{instance_in};
 use crate::limit::Limit;
 use crate::records::{Flow, Record};
 use crate::rows::{amount_of, in_range, minus, plus, share_of};
+use crate::share::Share;
 use crate::state::State;
 use instance::Refusal;
 
@@ -67,21 +68,21 @@ fn label_rival(labels: &[i64], places: &[u16], own: usize) -> i64
 }
 
 impl State<'_> {
-    // What the record's node cost gives to its label: kind 3.
-    fn node_amount(&self, step: Record) -> i64
-        requires { PlaceAsked (instance_in self.now) step.node step.index step.share }
-        ensures { result ≡ node_amount (instance_in self.now) self.now.nodes.now step.node (first (instance_in self.now) step.node + step.index) step.share }
+    // What the node cost at a position gives to its label: kind 3.
+    fn node_amount(&self, u: usize, k: usize, share: Share) -> i64
+        requires { (u < self.now.run.now.sheet.nodes) × (k < (instance_in self.now).degree u) }
+        ensures { result ≡ node_amount (instance_in self.now) self.now.nodes.now u (first (instance_in self.now) u + k) share.parts }
     {
         let sheet = &self.run.sheet;
-        let at = sheet.starts[step.node];
-        let to = at + sheet.degree(step.node);
-        amount_of(&self.nodes[at..to], step.index, step.share)
+        let at = sheet.starts[u];
+        let to = at + sheet.degree(u);
+        amount_of(&self.nodes[at..to], k, share)
     }
 
     // What the label cost at a place gives to the node: kind 4.
-    fn label_amount(&self, place: usize, share: u8) -> i64
-        requires { (place < node_cells (instance_in self.now)) × (1 ≤ share) × (exclusive ((instance_in self.now).label place) ≡ true) }
-        ensures { result ≡ label_amount (instance_in self.now) self.now.labels.now place share }
+    fn label_amount(&self, place: usize, share: Share) -> i64
+        requires { (place < node_cells (instance_in self.now)) × (exclusive ((instance_in self.now).label place) ≡ true) }
+        ensures { result ≡ label_amount (instance_in self.now) self.now.labels.now place share.parts }
     {
         let places = self.run.holders.row(self.run.sheet.label(place));
         share_of(
@@ -96,9 +97,10 @@ impl State<'_> {
         requires { PlaceAsked (instance_in self.now) step.node step.index step.share × (place ≡ first (instance_in self.now) step.node + step.index) }
         ensures { (result ≡ label_given (instance_in self.now) self.now.nodes.now self.now.labels.now (to_node flow) step.node place step.share) × (unsigned_abs result ≤ 2 ^ 41) }
     {
+        let share = Share { parts: step.share };
         match flow {
-            Flow::FromNode => self.node_amount(step),
-            Flow::ToNode => minus(0, self.label_amount(place, step.share)),
+            Flow::FromNode => self.node_amount(step.node, step.index, share),
+            Flow::ToNode => minus(0, self.label_amount(place, share)),
         }
     }
 }

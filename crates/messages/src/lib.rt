@@ -22,6 +22,7 @@ mod round_record;
 mod rounding;
 mod rows;
 mod running;
+mod share;
 mod state;
 mod turn;
 mod usable;

@@ -9,6 +9,7 @@ ghost use Rattle.integers.specs.Checks.{within};
 ghost use Rattle.rules.specs.Calls.{cost_limit};
 
 use crate::limit::Limit;
+use crate::share::Share;
 
 // A sum that fits.
 // Kept, with the difference: as a call it asks for its range once; written out, each reading of it would ask again.
@@ -95,12 +96,12 @@ pub(crate) fn rival(row: &[i64], k: usize) -> i64
     least_but(row, k, row[other])
 }
 
-// One r-th of `n`, to the nearest whole number. An exact half goes to the even one: it counts as more where the quotient is odd.
-fn nearest_to(n: u64, r: u8) -> u64
-    requires { (1 ≤ r) × (n ≤ 2 ^ 41) }
-    ensures { result ≡ nearest n r }
+// A share of `n`, to the nearest whole number. An exact half goes to the even one: it counts as more where the quotient is odd.
+fn nearest_to(n: u64, share: Share) -> u64
+    requires { n ≤ 2 ^ 41 }
+    ensures { result ≡ nearest n share.parts }
 {
-    let by = u64::from(r);
+    let by = u64::from(share.parts);
     let quotient = n / by;
     let rest = n % by;
     let next = quotient + 1;
@@ -112,17 +113,17 @@ fn nearest_to(n: u64, r: u8) -> u64
 }
 
 // A share of how far a cost is above another, or below it. Most shares are 1, and a division takes long.
-pub(crate) fn share_of(cost: i64, low: i64, r: u8) -> i64
-    requires le_r { 1 ≤ r }
-    requires cost_bound { (unsigned_abs cost ≤ cost_limit) × (unsigned_abs low ≤ cost_limit) }
-    ensures { result ≡ share (cost -ℤ low) r }
+pub(crate) fn share_of(cost: i64, low: i64, part: Share) -> i64
+    requires { (unsigned_abs cost ≤ cost_limit) × (unsigned_abs low ≤ cost_limit) }
+    ensures { result ≡ share (cost -ℤ low) part.parts }
 {
     let apart = cost - low;
-    if r == 1 {
+    if part.parts == 1 {
         return apart;
     }
-    let part = nearest_to(apart.unsigned_abs(), r) as i64;
-    if apart < 0 { -part } else { part }
+    // Kept: at most 2^41; `try_from` would add a case that cannot happen.
+    let size = nearest_to(apart.unsigned_abs(), part) as i64;
+    if apart < 0 { -size } else { size }
 }
 
 // Whether a cost lies within the limit. The smallest i64 is no special case.
@@ -174,11 +175,10 @@ pub(crate) fn all_half(costs: &[i64], limit: Limit) -> bool
 }
 
 // What the cost at `k` gives against the others of its row: a share of its distance from the least of them, and 0 with no other.
-pub(crate) fn amount_of(row: &[i64], k: usize, share: u8) -> i64
+pub(crate) fn amount_of(row: &[i64], k: usize, share: Share) -> i64
     requires k_in_bounds { k < length row.now }
-    requires le_share { 1 ≤ share }
     requires within { Within cost_limit row.now }
-    ensures { result ≡ amount (slice_index_or row.now k (pos 0)) (without row.now k) share }
+    ensures { result ≡ amount (slice_index_or row.now k (pos 0)) (without row.now k) share.parts }
 {
     if row.len() < 2 {
         return 0;

@@ -16,17 +16,17 @@ tested q e = ap (λ (z : ℤ). lt_z z unbounded) (sym (to_z-of_z q.ranges.cost))
 
 pub share_of-requires : goal.share_of-requires
 share_of-requires c =
-    record { le_r = c.requires.le_r; cost_bound = rw (to_z-of_z c.ranges.cost, to_z-of_z c.ranges.low) (c.requires.cost_bound.1, c.requires.cost_bound.0 (omega (linear, read c.ranges.cost))) }
+    rw (to_z-of_z c.ranges.cost, to_z-of_z c.ranges.low) (c.requires.1, c.requires.0 (omega (linear, read c.ranges.cost)))
 
 pub returns-then-cost-lt-UNBOUNDED : goal.returns-then-cost-lt-UNBOUNDED
 unfolding turned_least
 returns-then-cost-lt-UNBOUNDED c =
     let x = c.args in
-    answer c.share_of.type_inv c.share_of.ensures ∙ ap₂ (λ (b z : ℤ). share (b -ℤ z) x.r) (to_z-of_z c.ranges.low) (to_z-of_z c.ranges.cost)
-    ∙ share_back x.cost x.low x.r
-    ∙ sym (if-true (neg_ℤ (share (x.cost -ℤ x.low) x.r)) (pos 0) (tested (goal.at.returns-then-cost-lt-UNBOUNDED c).Start c.if-cost-lt-UNBOUNDED.true))
+    answer c.share_of.type_inv c.share_of.ensures ∙ ap₂ (λ (b z : ℤ). share (b -ℤ z) x.share.parts) (to_z-of_z c.ranges.low) (to_z-of_z c.ranges.cost)
+    ∙ share_back x.cost x.low x.share.parts
+    ∙ sym (if-true (neg_ℤ (share (x.cost -ℤ x.low) x.share.parts)) (pos 0) (tested (goal.at.returns-then-cost-lt-UNBOUNDED c).Start c.if-cost-lt-UNBOUNDED.true))
 
 pub returns-else-cost-lt-UNBOUNDED : goal.returns-else-cost-lt-UNBOUNDED
 unfolding turned_least
 returns-else-cost-lt-UNBOUNDED c =
-    let x = c.args in sym (if-false (neg_ℤ (share (x.cost -ℤ x.low) x.r)) (pos 0) (tested (goal.at.returns-else-cost-lt-UNBOUNDED c).Start c.if-cost-lt-UNBOUNDED.false))
+    let x = c.args in sym (if-false (neg_ℤ (share (x.cost -ℤ x.low) x.share.parts)) (pos 0) (tested (goal.at.returns-else-cost-lt-UNBOUNDED c).Start c.if-cost-lt-UNBOUNDED.false))

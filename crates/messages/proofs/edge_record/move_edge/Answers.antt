@@ -74,8 +74,8 @@ module _ (p : After-labels_of-other) where
 pub invariant_of-joint : goal.invariant_of-joint
 invariant_of-joint c = let p = (goal.at.invariant_of-joint c).After-labels_of-other in record { joined = legal_joined (found p) }
 
-pub amounts-amounts-requires : goal.amounts-amounts-requires
-amounts-amounts-requires c = c.requires.shares
+pub invariant_of-share : goal.invariant_of-share
+invariant_of-share c = record { some = c.requires.shares }
 
 pub move_line-requires : goal.move_line-requires
 move_line-requires c = line_first (legal_joined (found (goal.at.move_line-requires c).After-labels_of-other))

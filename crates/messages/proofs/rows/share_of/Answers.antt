@@ -6,7 +6,7 @@ use Rattle.integers.proofs.Share.{nearest_le, share-pos, share_one}
 use Rattle.integers.proofs.Bits.{low}
 use Rattle.messages.proofs.RowLaws.{apart_within, difference_fits, difference_is, share_below, from_zero, zero_fits}
 use Rattle.messages.proofs.rows.share_of.Goals as goal
-use Rattle.messages.proofs.rows.share_of.Goals.{After-nearest_to-part, Start}
+use Rattle.messages.proofs.rows.share_of.Goals.{After-nearest_to-size, Start}
 
 -- the distance
 module _ (q : Start) where
@@ -20,44 +20,44 @@ module _ (q : Start) where
   d = x -ℤ y
 
   is : to_z w64 (of_z w64 (to_z w64 (of_z w64 x) -ℤ to_z w64 (of_z w64 y))) ≡ d
-  is = difference_is x y q.requires.cost_bound.0 q.requires.cost_bound.1
+  is = difference_is x y q.requires.0 q.requires.1
 
 pub overflow_sub-apart : goal.overflow_sub-apart
-overflow_sub-apart c = difference_fits c.args.cost c.args.low c.requires.cost_bound.0 c.requires.cost_bound.1
+overflow_sub-apart c = difference_fits c.args.cost c.args.low c.requires.0 c.requires.1
 
-pub returns-then-r-eq1 : goal.returns-then-r-eq1
-returns-then-r-eq1 c =
-    let q = (goal.at.returns-then-r-eq1 c).Start in is q ∙ sym (ap (share (d q)) c.if-r-eq1.true ∙ share_one (d q))
+pub returns-then-part-eq1 : goal.returns-then-part-eq1
+returns-then-part-eq1 c =
+    let q = (goal.at.returns-then-part-eq1 c).Start in is q ∙ sym (ap (share (d q)) c.if-part-eq1.true ∙ share_one (d q))
 
 -- one r-th of its size
-module _ (c : After-nearest_to-part) where
+module _ (c : After-nearest_to-size) where
   abbrev q : Start
-  q = (goal.at.After-nearest_to-part c).Start
+  q = (goal.at.After-nearest_to-size c).Start
 
-  part : c.nearest_to-part.result ≡ nearest (nat_abs (d q)) q.args.r
-  part = c.nearest_to-part.ensures ∙ ap (λ (n : ℕ). nearest n q.args.r) (c.unsigned_abs.ensures.value ∙ ap nat_abs (is q))
+  part : c.nearest_to-size.result ≡ nearest (nat_abs (d q)) q.args.part.parts
+  part = c.nearest_to-size.ensures ∙ ap (λ (n : ℕ). nearest n q.args.part.parts) (c.unsigned_abs.ensures.value ∙ ap nat_abs (is q))
 
-  few : c.nearest_to-part.result ≤ 2 ^ 41
-  few = omega (arith, part, nearest_le (nat_abs (d q)) q.args.r, apart_within (x q) (y q) q.requires.cost_bound.0 q.requires.cost_bound.1)
+  few : c.nearest_to-size.result ≤ 2 ^ 41
+  few = omega (arith, part, nearest_le (nat_abs (d q)) q.args.part.parts, apart_within (x q) (y q) q.requires.0 q.requires.1)
 
-  read : to_z w64 c.nearest_to-part.result ≡ pos c.nearest_to-part.result
-  read = low w64 c.nearest_to-part.result (omega (arith, few))
+  read : to_z w64 c.nearest_to-size.result ≡ pos c.nearest_to-size.result
+  read = low w64 c.nearest_to-size.result (omega (arith, few))
 
-pub overflow_cast-part : goal.overflow_cast-part
-overflow_cast-part c = omega (linear, few (goal.at.overflow_cast-part c).After-nearest_to-part)
+pub overflow_cast-size : goal.overflow_cast-size
+overflow_cast-size c = omega (linear, few (goal.at.overflow_cast-size c).After-nearest_to-size)
 
 pub overflow_sub-result : goal.overflow_sub-result
 overflow_sub-result c =
-    let p = (goal.at.overflow_sub-result c).After-nearest_to-part in rw (read p) (zero_fits (pos c.nearest_to-part.result) (few p))
+    let p = (goal.at.overflow_sub-result c).After-nearest_to-size in rw (read p) (zero_fits (pos c.nearest_to-size.result) (few p))
 
 pub returns-then-apart-lt0 : goal.returns-then-apart-lt0
 returns-then-apart-lt0 c =
-    let p = (goal.at.returns-then-apart-lt0 c).After-nearest_to-part in
-    let n = c.nearest_to-part.result in
+    let p = (goal.at.returns-then-apart-lt0 c).After-nearest_to-size in
+    let n = c.nearest_to-size.result in
     rw (read p) (to_z-of_z (zero_fits (pos n) (few p)) ∙ from_zero (pos n) ∙ ap (λ (k : ℕ). neg_ℤ (pos k)) (part p))
-    ∙ sym (share_below (d (q p)) c.args.r (omega (linear, parts (is (q p)), c.if-apart-lt0.true)))
+    ∙ sym (share_below (d (q p)) c.args.part.parts (omega (linear, parts (is (q p)), c.if-apart-lt0.true)))
 
 pub returns-else-apart-lt0 : goal.returns-else-apart-lt0
 returns-else-apart-lt0 c =
-    let p = (goal.at.returns-else-apart-lt0 c).After-nearest_to-part in
-    read p ∙ ap pos (part p) ∙ sym (share-pos (d (q p)) c.args.r (omega (linear, parts (is (q p)), c.if-apart-lt0.false)))
+    let p = (goal.at.returns-else-apart-lt0 c).After-nearest_to-size in
+    read p ∙ ap pos (part p) ∙ sym (share-pos (d (q p)) c.args.part.parts (omega (linear, parts (is (q p)), c.if-apart-lt0.false)))

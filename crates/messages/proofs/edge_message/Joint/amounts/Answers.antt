@@ -7,7 +7,7 @@ use Rattle.messages.proofs.edge_message.Joint.amounts.Goals.{Start}
 
 -- the answer, one way or the other
 abbrev told : Start → Flow → List ℤ
-told q f = given_in q.args.self.now f q.args.share
+told q f = given_in q.args.self.now f q.args.share.parts
 
 pub returns-in-FromNode : goal.returns-in-FromNode
 returns-in-FromNode c = c.node_amounts.ensures ∙ ap (told (goal.at.returns-in-FromNode c).Start) (sym c.in-FromNode.is)

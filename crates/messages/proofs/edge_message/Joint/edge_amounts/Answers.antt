@@ -57,18 +57,18 @@ pub turn_all-requires : goal.turn_all-requires
 turn_all-requires c =
     let p = (goal.at.turn_all-requires c).After-least_by-amounts in
     record {
-      le_share = ((q p).requires, rw (low (goal.at.turn_all-requires c).After-least_of-low) (low_within (q p).args.self.now.joined.ends (q p).args.self.now.joined.cell_range));
+      low_bound = rw (low (goal.at.turn_all-requires c).After-least_of-low) (low_within (q p).args.self.now.joined.ends (q p).args.self.now.joined.cell_range);
       by_index = λ k h. let n : k < length (own p) = omega (arith, taken p) in rw (taken_is p k n ∙ at p k n) (position_within (q p).args.self.now.joined.ends (q p).args.self.now.joined.cell_range k);
     }
 
 -- what is given
-given : (c : After-turn_all) → c.turn_all.new.least ++ drop (length c.args.self.now.own.now) c.least_by-amounts.result ≡ edge_amounts (by_rows c.args.self.now.end) c.args.self.now.own.now c.args.self.now.other.now c.args.self.now.cells.now c.args.share
+given : (c : After-turn_all) → c.turn_all.new.least ++ drop (length c.args.self.now.own.now) c.least_by-amounts.result ≡ edge_amounts (by_rows c.args.self.now.end) c.args.self.now.own.now c.args.self.now.other.now c.args.self.now.cells.now c.args.share.parts
 given c =
     let p = (goal.at.After-turn_all c).After-least_by-amounts in let e = c.least_by-amounts.ensures in
     let n = length (own p) in
     let l = c.least_by-amounts.result in
     let b = to_z w64 (of_z w64 c.least_of-low.result) in
-    let r = (q p).args.share in
+    let r = (q p).args.share.parts in
     ap (λ (m : List ℤ). m ++ drop n l) c.turn_all.ensures
     ∙ over_front (λ k. turned_least (get_or (take n l) k (pos 0)) b r) (λ k. turned_least (get_or l k (pos 0)) b r) l (taken p) (λ k h. ap (λ (x : ℤ). turned_least x b r) (taken_is p k h))
     ∙ (λ i. over (λ k. turned_least (get_or (e i) k (pos 0)) (low (goal.at.After-turn_all c).After-least_of-low i) r) n (e i))
@@ -77,7 +77,7 @@ given c =
 pub invariant_of-result : goal.invariant_of-result
 invariant_of-result c =
     let j = c.args.self.now in
-    record { small = subst (λ (l : List ℤ). Within (2 ^ 41) l) (sym (given (goal.at.invariant_of-result c).After-turn_all)) (edge_within (by_rows j.end) j.own.now j.other.now j.cells.now c.args.share j.joined.cell_range) }
+    record { small = subst (λ (l : List ℤ). Within (2 ^ 41) l) (sym (given (goal.at.invariant_of-result c).After-turn_all)) (edge_within (by_rows j.end) j.own.now j.other.now j.cells.now c.args.share.parts j.joined.cell_range) }
 
 pub returns : goal.returns
 returns c = given (goal.at.returns c).After-turn_all

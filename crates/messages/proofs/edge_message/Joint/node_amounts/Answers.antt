@@ -20,21 +20,21 @@ pub share_of-requires : goal.share_of-requires
 share_of-requires c =
     let l = c.args.self.now.row.now in
     let k = c.loop-k.k in
-    record { le_r = c.requires; cost_bound = rw (low (goal.at.share_of-requires c).After-least_of-low, to_z-of_z {w = w64} {z = get_or l k (pos 0)} (search rules)) (c.args.self.now.joined.row_range k, least_of_within cost_limit l c.args.self.now.joined.row_range) }
+    rw (low (goal.at.share_of-requires c).After-least_of-low, to_z-of_z {w = w64} {z = get_or l k (pos 0)} (search rules)) (c.args.self.now.joined.row_range k, least_of_within cost_limit l c.args.self.now.joined.row_range)
 
 pub loop-k-preserved : goal.loop-k-preserved
 loop-k-preserved c =
     written_more c.loop-k.invariant (omega arith)
     (answer c.share_of.type_inv c.share_of.ensures
-    ∙ ap₂ (λ (x b : ℤ). share (x -ℤ b) c.args.share) (to_z-of_z {w = w64} {z = get_or c.args.self.now.row.now c.loop-k.k (pos 0)} (search rules)) (low (goal.at.loop-k-preserved c).After-least_of-low))
+    ∙ ap₂ (λ (x b : ℤ). share (x -ℤ b) c.args.share.parts) (to_z-of_z {w = w64} {z = get_or c.args.self.now.row.now c.loop-k.k (pos 0)} (search rules)) (low (goal.at.loop-k-preserved c).After-least_of-low))
 
 -- what is given
-given : (c : After-loop-k) → c.loop-k.amounts ≡ node_amounts c.args.self.now.row.now c.args.share
-given c = let x = c.args.self.now in written_all c.loop-k.invariant (omega arith) ∙ node_is x.row.now c.args.share x.joined.few
+given : (c : After-loop-k) → c.loop-k.amounts ≡ node_amounts c.args.self.now.row.now c.args.share.parts
+given c = let x = c.args.self.now in written_all c.loop-k.invariant (omega arith) ∙ node_is x.row.now c.args.share.parts x.joined.few
 
 pub invariant_of-result : goal.invariant_of-result
 invariant_of-result c =
-    let x = c.args.self.now in record { small = subst (λ (l : List ℤ). Within (2 ^ 41) l) (sym (given c)) (node_within x.row.now c.args.share x.joined.row_range) }
+    let x = c.args.self.now in record { small = subst (λ (l : List ℤ). Within (2 ^ 41) l) (sym (given c)) (node_within x.row.now c.args.share.parts x.joined.row_range) }
 
 pub returns : goal.returns
 returns c = given (goal.at.returns c).After-loop-k

@@ -7,4 +7,4 @@ use Rattle.messages.proofs.EdgeLaws.{zeros}
 use Rattle.messages.proofs.edge_message.Joint.node_amounts.Given as goal
 
 abbrev pub invariant-loop-k : goal.invariant-loop-k
-invariant-loop-k l = Overwritten (λ j. share (get_or l.self.row.now j (pos 0) -ℤ least_of l.self.row.now) l.share) (length l.self.row.now) zeros l.k l.amounts
+invariant-loop-k l = Overwritten (λ j. share (get_or l.self.row.now j (pos 0) -ℤ least_of l.self.row.now) l.share.parts) (length l.self.row.now) zeros l.k l.amounts

@@ -1,6 +1,7 @@
 -- `given` meets its contract: the node's amount, or the label's turned round.
 use Rattle.std.proofs.Common.{◌^◌, ◌≤◌, ℤ, pos, ◌-ℤ◌, nat_abs, sym, ap, ◌∙◌, subst, arith}
 use Rattle.integers.proofs.Bits.{same}
+use Rattle.instance.proofs.Sheets.{nodes_is}
 use Rattle.messages.specs.declared.records.Flow.{Flow}
 use Rattle.messages.specs.LabelMessage.{node_amount, label_amount, label_given}
 use Rattle.messages.specs.Records.{to_node}
@@ -21,14 +22,16 @@ module _ (q : Start) where
   small : nat_abs amount ≤ 2 ^ 41
   small = let a = q.args in label_fits (instance_in a.self.now) a.self.now.labels.now (labels_fit a.self.now).range a.place a.step.share
 
+pub invariant_of-share : goal.invariant_of-share
+invariant_of-share c = record { some = c.requires.0.some }
+
 pub node_amount-requires : goal.node_amount-requires
-node_amount-requires c = c.requires.0
+node_amount-requires c = let asked = c.requires.0 in (omega (arith, asked.node, nodes_is c.args.self.now.run.now.sheet), asked.position)
 
 pub label_amount-requires : goal.label_amount-requires
 label_amount-requires c =
-    let (asked, at) = c.requires in
-    let f = labels_fit c.args.self.now in
-    (omega (arith, at, place_in asked c.args.self.now.labels.now f.size, f.size), asked.some, rw at asked.exclusive)
+    let (asked, at) = c.requires in let s = c.args.self.now in
+    (omega (arith, at, place_in (instance_in s) asked.node asked.position s.labels.now (labels_fit s).size, (labels_fit s).size), rw at asked.exclusive)
 
 pub minus-requires : goal.minus-requires
 minus-requires c =

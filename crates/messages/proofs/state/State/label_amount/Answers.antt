@@ -16,7 +16,7 @@ use Rattle.messages.proofs.state.State.label_amount.Goals.{After-label, After-la
 row : (l : After-label) → l.label.result < 64
 row l =
     let good = sheet.proper l.args.self.now.run.now.sheet in
-    omega (arith, l.label.ensures.0, label_known_lem good l.args.place l.requires.0 l.requires.2, good.labels_few)
+    omega (arith, l.label.ensures.0, label_known_lem good l.args.place l.requires.0 l.requires.1, good.labels_few)
 
 rival : (p : After-label_rival) → (let a = p.args in p.label_rival.result ≡ label_rival (instance_of a.self.now.run.now.sheet.bytes.now) a.self.now.labels.now a.place)
 rival p =
@@ -31,8 +31,8 @@ pub label_rival-requires : goal.label_rival-requires
 label_rival-requires c =
     λ j h. omega (arith, (row_keyed c.args.self.now.run.now.held (row (goal.at.label_rival-requires c).After-label) c.row-places.ensures.things h).1, (labels_fit c.args.self.now).size)
 
-pub share_of-requires-clause-cost_bound : goal.share_of-requires-clause-cost_bound
-share_of-requires-clause-cost_bound c =
+pub share_of-requires : goal.share_of-requires
+share_of-requires c =
     let a = c.args in
     let l = a.self.now.labels.now in
     let h = (labels_fit a.self.now).range in
@@ -43,8 +43,8 @@ returns c =
     let a = c.args in
     let l = a.self.now.labels.now in
     answer c.share_of.type_inv c.share_of.ensures
-    ∙ ap₂ (λ (z b : ℤ). share (z -ℤ b) a.share) (to_z-of_z {w = w64} {z = get_or l a.place (pos 0)} (search rules)) (answer c.label_rival.type_inv (rival (goal.at.returns c).After-label_rival))
-    ∙ label_shared (instance_of a.self.now.run.now.sheet.bytes.now) l a.place a.share
+    ∙ ap₂ (λ (z b : ℤ). share (z -ℤ b) a.share.parts) (to_z-of_z {w = w64} {z = get_or l a.place (pos 0)} (search rules)) (answer c.label_rival.type_inv (rival (goal.at.returns c).After-label_rival))
+    ∙ label_shared (instance_of a.self.now.run.now.sheet.bytes.now) l a.place a.share.parts
 
 pub offset_bounds-self-place : goal.offset_bounds-self-place
 offset_bounds-self-place c = omega (arith, c.requires.0, (labels_fit c.args.self.now).size)

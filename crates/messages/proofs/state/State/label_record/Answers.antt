@@ -54,10 +54,10 @@ module _ (p : Then-legal_position) where
   begins = ap (λ (a : ℕ). a + r.index) (start_is x node)
 
   in_nodes : place < length s.nodes.now
-  in_nodes = omega (arith, begins, place_in asked s.nodes.now (nodes_fit s).size)
+  in_nodes = omega (arith, begins, place_in I asked.node asked.position s.nodes.now (nodes_fit s).size)
 
   in_labels : place < length s.labels.now
-  in_labels = omega (arith, begins, place_in asked s.labels.now (labels_fit s).size)
+  in_labels = omega (arith, begins, place_in I asked.node asked.position s.labels.now (labels_fit s).size)
 
 -- what the move leaves
 moved : (m : After-shift_label) → (let a = m.args in label_move (refused_in m.shift_label.result) m.shift_label.new.nodes m.shift_label.new.labels

@@ -23,10 +23,13 @@ module _ (q : Start) where
   abbrev I : Instance
   I = instance_of x.bytes.now
 
-  node : q.args.step.node < x.nodes
-  node = omega (arith, q.requires.node, nodes_is x)
+  node : q.args.u < x.nodes
+  node = q.requires.0
 
-  begins : get_or x.starts q.args.step.node 0 ≡ first I q.args.step.node
+  known : q.args.u < I.node_count
+  known = omega (arith, node, nodes_is x)
+
+  begins : get_or x.starts q.args.u 0 ≡ first I q.args.u
   begins = start_is x node
 
 -- the row by the degree that was read
@@ -35,19 +38,19 @@ module _ (c : After-degree) where
   start = (goal.at.After-degree c).Start
 
   abbrev at : ℕ
-  at = get_or (x start).starts start.args.step.node 0
+  at = get_or (x start).starts start.args.u 0
 
   row : at + c.degree.result ≤ length start.args.self.now.nodes.now
-  row = omega (arith, c.degree.ensures.0, begins start, row_in start.requires start.args.self.now.nodes.now (nodes_fit start.args.self.now).size)
+  row = omega (arith, c.degree.ensures.0, begins start, row_in (I start) (known start) start.args.self.now.nodes.now (nodes_fit start.args.self.now).size)
 
-  size : (at + c.degree.result) - at ≡ (I start).degree start.args.step.node
+  size : (at + c.degree.result) - at ≡ (I start).degree start.args.u
   size = omega (arith, c.degree.ensures.0)
 
-pub offset_bounds-sheet-step : goal.offset_bounds-sheet-step
-offset_bounds-sheet-step c = let q = (goal.at.offset_bounds-sheet-step c).Start in omega (arith, node q, nodes_few (x q))
+pub offset_bounds-sheet-u : goal.offset_bounds-sheet-u
+offset_bounds-sheet-u c = let q = (goal.at.offset_bounds-sheet-u c).Start in omega (arith, node q, nodes_few (x q))
 
-pub bounds-sheet-step : goal.bounds-sheet-step
-bounds-sheet-step c = let q = (goal.at.bounds-sheet-step c).Start in omega (arith, node q, nodes_few (x q))
+pub bounds-sheet-u : goal.bounds-sheet-u
+bounds-sheet-u c = let q = (goal.at.bounds-sheet-u c).Start in omega (arith, node q, nodes_few (x q))
 
 pub degree-requires : goal.degree-requires
 degree-requires c = node (goal.at.degree-requires c).Start
@@ -66,8 +69,8 @@ returns c =
     let p = (goal.at.returns c).After-degree in let q = start p in
     let l = q.args.self.now.nodes.now in
     same c.amount_of.result c.amount_of.type_inv ∙ c.amount_of.ensures
-    ∙ ap₂ (λ (a d : ℕ). amount (get_or (part l a d) q.args.step.index (pos 0)) (without (part l a d) q.args.step.index) q.args.step.share) (begins q) (size p)
-    ∙ node_given q.requires l (nodes_fit q.args.self.now).size
+    ∙ ap₂ (λ (a d : ℕ). amount (get_or (part l a d) q.args.k (pos 0)) (without (part l a d) q.args.k) q.args.share.parts) (begins q) (size p)
+    ∙ node_given (I q) (known q) q.requires.1 q.args.share.parts l (nodes_fit q.args.self.now).size
 
 pub amount_of-requires-clause-within : goal.amount_of-requires-clause-within
 amount_of-requires-clause-within c =
