@@ -33,6 +33,7 @@ fn node_sum(held: &Checked) -> i64
 }
 
 // The least usable of the cells of edge `e`.
+// Kept: the costs of the cells are asked to fit, as in `amount_of`.
 fn cell_least(sheet: &Sheet, cells: &[i64], e: usize) -> i64
     requires edge { e < sheet.now.edges }
     requires fits { Fits (table_size (instance_of sheet.now.bytes.now) e) cells.now }
@@ -71,6 +72,7 @@ fn label_leasts(held: &Checked) -> [i64; 256]
 }
 
 // The sum of the first `count`.
+// Kept: the costs are asked to be within the limit, as in `amount_of`.
 fn label_sum(least: &[i64; 256], count: usize) -> i64
     requires count_bound { count ≤ 64 }
     requires within { Within cost_limit least.now }

@@ -86,6 +86,7 @@ pub(crate) fn move_line(line: &mut [i64], k: usize, end: End, amounts: &Amounts)
 }
 
 // Adds to each cell of an edge's table the amount at its position.
+// Kept: the cells are asked to be within the limit. It writes them, and a `Joint` promises that of what it reads.
 pub(crate) fn move_cells(
     cells: &mut [i64],
     width: usize,

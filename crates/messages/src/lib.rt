@@ -12,6 +12,7 @@ mod end;
 mod filling;
 mod incumbent;
 mod label_message;
+mod labelled;
 mod lent;
 mod limit;
 mod list;

@@ -7,7 +7,8 @@ ghost use Rattle.messages.specs.Answers.{reported_as, against};
 use crate::answers::Report;
 use crate::bound::lower_bound;
 use crate::checked::Checked;
-use crate::incumbent::{none_kept, price};
+use crate::incumbent::none_kept;
+use crate::labelled::Labelled;
 use crate::lent::{Lent, check_lent};
 use crate::limit::COST_LIMIT;
 use crate::rows::minus;
@@ -33,7 +34,11 @@ fn tell(held: &Checked) -> Result<Report, Refusal>
     if none_kept(incumbent) {
         return Ok(Report::Bound(bound));
     }
-    answer(bound, price(held.sheet, incumbent))
+    let kept = Labelled {
+        sheet: held.sheet,
+        x: incumbent,
+    };
+    answer(bound, kept.price())
 }
 
 // The bound, or the bound, the kept matching's cost and the gap. Refused where the sheet or what is lent is, or where the bound exceeds the cost.

@@ -5,7 +5,7 @@ ghost use Rattle.rules.specs.Run.{rounding};
 ghost use Rattle.messages.specs.Step.{settle, stuck_in};
 ghost use Rattle.messages.specs.State.{Same, buffers_in, leaves};
 
-use crate::incumbent::adopt;
+use crate::labelled::Labelled;
 use crate::records::Record;
 use crate::state::State;
 use instance::Refusal;
@@ -30,7 +30,11 @@ impl State<'_> {
             return Ok(1);
         };
         let sheet = &self.run.sheet;
-        adopt(sheet, &x[..sheet.nodes], self.incumbent);
+        let found = Labelled {
+            sheet,
+            x: &x[..sheet.nodes],
+        };
+        found.adopt(self.incumbent);
         Ok(0)
     }
 }

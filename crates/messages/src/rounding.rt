@@ -12,6 +12,7 @@ use crate::state::State;
 use instance::{Sheet, exclusive};
 
 // Adds a row of costs to the keys, place by place.
+// Kept: the costs are asked to be within the limit, as in `amount_of`.
 fn add_cells(keys: &mut [i64], row: &[i64])
     requires row_in_bounds { length row.now ≤ length keys.old }
     requires within { Within (2 ^ 50) keys.old }

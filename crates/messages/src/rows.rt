@@ -175,6 +175,7 @@ pub(crate) fn all_half(costs: &[i64], limit: Limit) -> bool
 }
 
 // What the cost at `k` gives against the others of its row: a share of its distance from the least of them, and 0 with no other.
+// Kept: that its costs are within the limit is asked for. A row is cut from a buffer for this one call; a struct around it would be made and opened at each cut.
 pub(crate) fn amount_of(row: &[i64], k: usize, share: Share) -> i64
     requires k_in_bounds { k < length row.now }
     requires within { Within cost_limit row.now }

@@ -9,6 +9,7 @@ use crate::clash::{clash, mask_of};
 use crate::rows::{UNBOUNDED, least};
 
 // The least usable cell of an edge's table: of the stretches between the unusable ones, which stand ever further on.
+// Kept: the costs are asked to be within the limit, as in `amount_of`.
 pub(crate) fn usable_least(cells: &[i64], low: &[u8], high: &[u8]) -> i64
     requires ends { Ends true low.now high.now cells.now }
     requires within { Within cost_limit cells.now }

@@ -27,9 +27,9 @@ pub returns-then-none_kept : goal.returns-then-none_kept
 returns-then-none_kept c =
     let q = (goal.at.returns-then-none_kept c).Start in ap calls.bound (same c.lower_bound-bound.result c.lower_bound-bound.type_inv ∙ c.lower_bound-bound.ensures.0) ∙ told-bound (sheet q) (lends q) (sym c.none_kept.ensures ∙ c.if-none_kept.true)
 
-pub price-requires : goal.price-requires
-price-requires c =
-    let q = (goal.at.price-requires c).Start in kept_labelling (instance_of (sheet q)) (well q).kept (well q).incumbent (sym c.none_kept.ensures ∙ c.if-none_kept.false)
+pub invariant_of-kept : goal.invariant_of-kept
+invariant_of-kept c =
+    let q = (goal.at.invariant_of-kept c).Start in record { labelling = kept_labelling (instance_of (sheet q)) (well q).kept (well q).incumbent (sym c.none_kept.ensures ∙ c.if-none_kept.false) }
 
 pub answer-requires : goal.answer-requires
 answer-requires c =

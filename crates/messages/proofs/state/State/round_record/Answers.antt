@@ -55,13 +55,13 @@ module _ (p : In-Some) where
 pub slice_bounds-x-end : goal.slice_bounds-x-end
 slice_bounds-x-end c = room (goal.at.slice_bounds-x-end c).In-Some
 
-pub slice_bounds-adopt-end : goal.slice_bounds-adopt-end
-slice_bounds-adopt-end c =
-    let p = (goal.at.slice_bounds-adopt-end c).In-Some in sym (length-take-le (x p).nodes c.in-Some.x (room p))
+pub slice_bounds-found-end : goal.slice_bounds-found-end
+slice_bounds-found-end c =
+    let p = (goal.at.slice_bounds-found-end c).In-Some in sym (length-take-le (x p).nodes c.in-Some.x (room p))
 
-pub adopt-requires-clause-labelling : goal.adopt-requires-clause-labelling
-adopt-requires-clause-labelling c =
-    let p = (goal.at.adopt-requires-clause-labelling c).In-Some in found_labelling (I p) (costs p) (x p).nodes (same p) (few p) c.in-Some.x (made p)
+pub invariant_of-found : goal.invariant_of-found
+invariant_of-found c =
+    let p = (goal.at.invariant_of-found c).In-Some in record { labelling = found_labelling (I p) (costs p) (x p).nodes (same p) (few p) c.in-Some.x (made p) }
 
 -- what was found is adopted
 adopted : (a : After-adopt) → (let s = a.args.self.now in let r = a.args.step in
@@ -70,8 +70,8 @@ adopted a =
     let p = (goal.at.After-adopt a).In-Some in
     found_left (I p) (costs p) (x p).nodes (same p) (few p) a.in-Some.x (made p) a.args.self.now.incumbent.now _ a.adopt.ensures ∙ rounds (goal.at.After-adopt a).Else-not-names_nothing
 
-pub adopt-requires-clause-fits : goal.adopt-requires-clause-fits
-adopt-requires-clause-fits c = let f = kept_fits c.args.self.now in (f.size ∙ sym (sheet.nodes_is c.args.self.now.run.now.sheet), f.ok)
+pub adopt-requires : goal.adopt-requires
+adopt-requires c = kept_fits c.args.self.now
 
 pub invariant_of-self : goal.invariant_of-self
 invariant_of-self c = record { good = good_after c.args.self.now rounding c.args.step (rounding_left c.args.self.now c.args.step (adopted (goal.at.invariant_of-self c).After-adopt)) }

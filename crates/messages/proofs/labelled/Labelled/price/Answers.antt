@@ -8,8 +8,8 @@ use Rattle.instance.specs.Sheet.{instance_of}
 use Rattle.instance.proofs.Sheets.{nodes_is, edges_is}
 use Rattle.rules.specs.Costs.{chosen, chosen_cell}
 use Rattle.messages.proofs.IncumbentLaws.{price_parts}
-use Rattle.messages.proofs.incumbent.price.Goals as goal
-use Rattle.messages.proofs.incumbent.price.Goals.{After-edge_part}
+use Rattle.messages.proofs.labelled.Labelled.price.Goals as goal
+use Rattle.messages.proofs.labelled.Labelled.price.Goals.{After-edge_part}
 
 module _ (c : After-edge_part) where
   abbrev a : ℤ
@@ -26,9 +26,9 @@ overflow_add-result c = rw (same (a c) c.node_part.type_inv, same (b c) c.edge_p
 
 pub returns : goal.returns
 returns c =
-    let q = c.args.sheet.now in
+    let q = c.args.self.now.sheet.now in
     let J = instance_of q.bytes.now in
-    let x = c.args.x.now in
+    let x = c.args.self.now.x.now in
     let e = to_z-of_z (overflow_add-result c) ∙ ap₂ ◌+ℤ◌ (same (a c) c.node_part.type_inv) (same (b c) c.edge_part.type_inv) in (
       e ∙ price_parts J x (c.node_part.ensures.0 ∙ ap (λ (k : ℕ). total k (λ u. J.node_price (chosen J x u))) (nodes_is q)) (c.edge_part.ensures.0 ∙ ap (λ (k : ℕ). total k (λ e. J.edge_price (chosen_cell J x e))) (edges_is q)),
       subst (λ (z : ℤ). nat_abs z ≤ 320_000_000) (sym e) (omega (arith, abs_add (a c) (b c), c.node_part.ensures.1, c.edge_part.ensures.1)),
