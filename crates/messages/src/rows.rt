@@ -56,6 +56,7 @@ pub(crate) fn least(row: &[i64], start: i64) -> i64
     let mut c = start;
     let mut d = start;
     let mut rest = row;
+    // Kept: no range, as each turn takes four from the front, and what is left is gone through after it.
     while let Some((four, more)) = rest.split_first_chunk::<4>() {
         a = a.min(four[0]);
         b = b.min(four[1]);
