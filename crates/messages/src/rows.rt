@@ -174,6 +174,7 @@ pub(crate) fn all_half(costs: &[i64], limit: Limit) -> bool
 }
 
 // What the cost at `k` gives against the others of its row: a share of its distance from the least of them, and 0 with no other.
+// Kept: the row is asked to be within the limit, since it is cut from a buffer where it is used, and a struct around it would be made and opened at each cut.
 pub(crate) fn amount_of(row: &[i64], k: usize, share: u8) -> i64
     requires k_in_bounds { k < length row.now }
     requires le_share { 1 ≤ share }
