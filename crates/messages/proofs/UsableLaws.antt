@@ -88,7 +88,7 @@ picked f t u {n} {m} e q =
 
 -- the usable ones are all but the one at which the labels clash
 pub line_is : (b : Bool) {own other : List ℕ} {l : List ℤ} → Ends b own other l → (k : ℕ) → k < length own → (skip : ℕ) → ((p : ℕ) → p < length other → usable (get_or own k 0) (get_or other p 0) ≡ not (eqb p skip))
-    → without (line_at b (width_of b own other) (cond b (length own) (length other)) l k) skip ≡ cells_at b own other l k
+    → without (line_at b (width_of b own other) (height_of b own other) l k) skip ≡ cells_at b own other l k
 unfolding tabulate
 line_is true {own} {other} {l} e k g skip x =
     let w = length other in
@@ -115,16 +115,16 @@ line_is false {own} {other} {l} e k g skip x =
 
 -- as many cells as the other end has labels
 line-few : (b : Bool) {own other : List ℕ} {l : List ℤ} → Ends b own other l → (k : ℕ) → k < length own
-    → length (line_at b (width_of b own other) (cond b (length own) (length other)) l k) ≤ length other
+    → length (line_at b (width_of b own other) (height_of b own other) l k) ≤ length other
 line-few true {own} {other} {l} e k g = let z = row-length e.shape k g in omega arith
 line-few false {own} {other} {l} e k g = let z = length-tabulate (length other) (λ r. get_or l (length own * r + k) (pos 0)) in omega arith
 
 -- the same by the place that is skipped, if there is one
 pub line_left : (b : Bool) {own other : List ℕ} {l : List ℤ} → Ends b own other l → (k : ℕ) → k < length own → {skip : Option ℕ} → Skips other (get_or own k 0) skip
-    → left_of (line_at b (width_of b own other) (cond b (length own) (length other)) l k) skip ≡ cells_at b own other l k
+    → left_of (line_at b (width_of b own other) (height_of b own other) l k) skip ≡ cells_at b own other l k
 line_left b {own} {other} {l} e k g {skip = Some p} x = line_is b e k g p x.passed
 line_left b {own} {other} {l} e k g {skip = None} x =
-    sym (without_past (line_at b (width_of b own other) (cond b (length own) (length other)) l k) (length other) (line-few b e k g))
+    sym (without_past (line_at b (width_of b own other) (height_of b own other) l k) (length other) (line-few b e k g))
     ∙ line_is b e k g (length other) (skips_past x)
 
 -- ---- the positions of the end

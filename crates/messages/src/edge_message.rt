@@ -233,10 +233,8 @@ impl Joint<'_> {
     fn cells_fit(&self, amounts: &Amounts, limit: Limit) -> bool
         ensures { result ≡ every (within limit.most) (cells_with self.now amounts.now.each) }
     {
-        if all_half(&amounts.each, limit) {
-            if all_half(self.cells, limit) {
-                return true;
-            }
+        if all_half(&amounts.each, limit) && all_half(self.cells, limit) {
+            return true;
         }
         self.each_cell_fits(amounts, limit)
     }
@@ -246,10 +244,6 @@ impl Joint<'_> {
         requires { taken.now.each ≡ taken_of amounts.now.each }
         ensures { result ≡ fit_in self.now limit.most amounts.now.each }
     {
-        if excess_line(self.row, 0, End::Higher, taken, limit) < OUT {
-            self.cells_fit(amounts, limit)
-        } else {
-            false
-        }
+        excess_line(self.row, 0, End::Higher, taken, limit) < OUT && self.cells_fit(amounts, limit)
     }
 }

@@ -33,4 +33,5 @@ returns-then-excess_line-lt-OUT c =
 
 pub returns-else-excess_line-lt-OUT : goal.returns-else-excess_line-lt-OUT
 returns-else-excess_line-lt-OUT c =
-    let p = (goal.at.returns-else-excess_line-lt-OUT c).After-excess_line in ap (both p) (sym (le-ltb c.excess_line.result (2 ^ 63) c.if-excess_line-lt-OUT.false) ∙ row_told p)
+    let p = (goal.at.returns-else-excess_line-lt-OUT c).After-excess_line in
+    let e = le-ltb c.excess_line.result (2 ^ 63) c.if-excess_line-lt-OUT.false in e ∙ ap (both p) (sym e ∙ row_told p)

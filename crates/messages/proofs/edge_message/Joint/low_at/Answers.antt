@@ -1,10 +1,10 @@
 -- `low_at` meets its contract: the end says whether a row or a column is gone through.
-use Rattle.std.proofs.Common.{ℕ, ◌+◌, ◌-◌, ◌*◌, ◌<◌, ◌≤◌, Bool, cond, List, length, take, drop, ℤ, sym, refl, ap, ◌∙◌, subst}
+use Rattle.std.proofs.Common.{ℕ, ◌+◌, ◌-◌, ◌*◌, ◌<◌, Bool, cond, List, length, take, drop, ℤ, sym, refl, ap, ◌∙◌, subst}
 use Rattle.integers.specs.Least.{least_from}
 use Rattle.integers.proofs.Bits.{answer}
 use Rattle.messages.specs.EdgeMessage.{by_rows, line_at, left_of, unbounded}
 use Rattle.messages.specs.Joints.{columns, rows}
-use Rattle.messages.proofs.EdgeLaws.{row_end, row_part}
+use Rattle.messages.proofs.EdgeLaws.{row_part}
 use Rattle.messages.proofs.edge_message.Joint.low_at.Goals as goal
 use Rattle.messages.proofs.edge_message.Joint.low_at.Goals.{Start, After-width-width}
 
@@ -15,14 +15,6 @@ module _ (q : Start) where
 
   abbrev line : Bool → List ℤ
   line b = let j = q.args.self.now in line_at b (columns j) (rows j) j.cells.now q.args.k
-
--- there is a row k, which ends within the table
-module _ (c : After-width-width) where
-  row : c.args.k < rows c.args.self.now
-  row = let j = c.args.self.now in subst (λ (b : Bool). c.args.k < cond b (length j.own.now) (length j.other.now)) (sym (ap by_rows c.in-Lower.is)) c.requires.k_bound
-
-  end : c.args.k * c.width-width.result + c.width-width.result ≤ length c.args.self.now.cells.now
-  end = rw c.width-width.ensures (row_end c.args.self.now.joined.ends.shape row refl)
 
 pub column_low-requires : goal.column_low-requires
 column_low-requires c =
