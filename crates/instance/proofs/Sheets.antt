@@ -132,6 +132,9 @@ module _ (x : Sheet) where
   pub table_here : {e : ℕ} → e < x.edges → table I e + table_size I e ≤ x.cells
   table_here {e} h = omega (arith, cells_is, table_inside I (edge_there h))
 
+  pub table_few : {e : ℕ} → e < x.edges → get_or x.tables e 0 ≤ 4_096
+  table_few {e} h = omega (arith, table_is h, table_here h, cells_few)
+
   -- the prices
   pub node_price_bytes : {i : ℕ} → i < x.positions → x.prices + 4 * i + 4 ≤ length s
   unfolding first instance_of
