@@ -1,6 +1,7 @@
 -- `edge_price` meets its contract: the edge prices lie in the sheet.
-use Rattle.instance.proofs.Sheets.{edge_price_bytes}
+use Rattle.std.proofs.Common.{arith}
+use Rattle.instance.proofs.Sheets.{prices_there}
 use Rattle.instance.proofs.sheet.Sheet.edge_price.Goals as goal
 
 pub price_in-requires : goal.price_in-requires
-price_in-requires c = edge_price_bytes c.args.self.now c.requires
+price_in-requires c = omega (arith, (prices_there c.args.self.now).1, c.requires)

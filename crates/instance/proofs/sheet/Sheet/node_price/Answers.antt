@@ -1,6 +1,7 @@
 -- `node_price` meets its contract: the node prices lie in the sheet.
-use Rattle.instance.proofs.Sheets.{node_price_bytes}
+use Rattle.std.proofs.Common.{arith}
+use Rattle.instance.proofs.Sheets.{prices_there}
 use Rattle.instance.proofs.sheet.Sheet.node_price.Goals as goal
 
 pub price_in-requires : goal.price_in-requires
-price_in-requires c = node_price_bytes c.args.self.now c.requires
+price_in-requires c = omega (arith, (prices_there c.args.self.now).0, c.requires)
