@@ -19,7 +19,7 @@ impl<'a> Seats<'a> {
         let mut rest = (self.nodes.sets[u] | seen) ^ seen;
         while rest != 0 {
             let l = lowest(rest);
-            if l as u8 == label {
+            if l == label {
                 break;
             }
             match self.chain(bit_of(l), seen, u) {
@@ -29,7 +29,7 @@ impl<'a> Seats<'a> {
             rest = (rest | seen) ^ seen;
         }
         if label < 64 {
-            self.give(u, usize::from(label));
+            self.give(u, label);
         }
     }
 

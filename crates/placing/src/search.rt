@@ -18,7 +18,7 @@ pub(crate) struct Steps {
 // The free label that a search met, and after how many steps.
 #[derive(Clone, Copy)]
 pub(crate) struct Meeting {
-    pub label: usize,
+    pub label: u8,
     pub count: usize,
 }
 
@@ -36,8 +36,9 @@ impl<'a> Seats<'a> {
         let mut count = 0;
         while layer != 0 {
             let l = lowest(layer);
-            let new = (self.reach[l] | seen) ^ seen;
-            steps.by[count] = l as u8;
+            let from = usize::from(l);
+            let new = (self.reach[from] | seen) ^ seen;
+            steps.by[count] = l;
             steps.words[count] = new;
             count += 1;
             let met = new & free;

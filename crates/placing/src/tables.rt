@@ -33,7 +33,7 @@ fn word_of(labels: &[u8]) -> u64
 {
     let mut word = 0;
     for label in labels {
-        word |= bit_of(usize::from(*label));
+        word |= bit_of(*label);
     }
     word
 }

@@ -1,10 +1,11 @@
 -- `lower` meets its contract: each turn is one of `Trying`.
-use Prim.Native.Nat.{ℕ, ◌≤◌, ◌<◌}
-use mathlib.Core.Path.{◌≡◌, sym, ap, ap₂, ◌∙◌, subst, transport}
+use Prim.Native.Nat.{ℕ, ◌^◌, ◌≤◌, ◌<◌}
+use mathlib.Core.Path.{◌≡◌, sym, ap, ◌∙◌, subst, transport}
 use mathlib.Core.Bool.{true}
 use mathlib.Core.List.{List}
 use native.Mathlib.Omega.{arith}
 use lib.Bits.{bit_or, bit_xor}
+use lib.Count.{count_trailing_zeros}
 use lib.ListN.{set}
 use Rattle.std.proofs.lemmas.List.{set-set, set-get_or}
 use Rattle.integers.specs.Words.{bit}
@@ -70,33 +71,40 @@ loop-rest-preserved c =
     (e', f', trying_more c.args.self.now.linked (few (goal.at.loop-rest-preserved c).Start) v s.barred.1 (linked_as (ap (λ n. n.sets) e') f' c.chain.new.self.linked))
 
 -- no label is left below that which u has, and u has it again
-module _ (c : At-loop-rest) (least : (x : ℕ) → bit c.loop-rest.rest x ≡ true → entry c.args.self.now.taken c.args.u ≤ x) where
+-- no label of the rest lies below the one that u has: none is left, or the lowest is that one
+abbrev None_below : ℕ → ℕ → Type 0
+None_below rest label = (x : ℕ) → bit rest x ≡ true → label ≤ x
+
+emptied : {rest label : ℕ} → rest ≡ 0 → None_below rest label
+emptied {rest} z x e = absurd (some_bit rest x e z)
+
+reached : {rest l label : ℕ} → rest < 2 ^ 64 → (rest ≡ 0 → ⊥) → l ≡ count_trailing_zeros 64 rest → l ≡ label → None_below rest label
+reached {rest} {l} fit some low q x e = let b = least_below rest l (least_of rest l fit some low) x e in omega arith
+
+-- so u has it again
+module _ (c : At-loop-rest) (least : None_below c.loop-rest.rest (entry c.args.self.now.taken c.args.u)) where
   stays : {t : List ℕ} → t ≡ c.args.self.now.taken → Lowest c.args.self.now.nodes.now.count c.args.self.now.nodes.now.sets c.args.self.now.nodes.now.own c.args.self.now.taken c.args.u t
   stays e =
       let s = c.args.self.now in
       subst (Lowest s.nodes.now.count s.nodes.now.sets s.nodes.now.own s.taken c.args.u) (sym e)
       (lowest_stays s.linked (few (goal.at.At-loop-rest c).Start) c.loop-rest.invariant.2 c.requires.0 c.requires.1 least)
 
--- the lowest that is left is that which u has
-reached : (rest l label : ℕ) → Least rest l → l ≡ label → (x : ℕ) → bit rest x ≡ true → label ≤ x
-reached rest l label h q x e = let b = least_below rest l h x e in omega arith
-
 pub returns-then-label-lt64-clause-lowest : goal.returns-then-label-lt64-clause-lowest
 returns-then-label-lt64-clause-lowest c =
-    let t = (goal.at.returns-then-label-lt64-clause-lowest c).At-loop-rest in
-    let taken = c.args.self.now.taken in let u = c.args.u in let rest = c.loop-rest.rest in
-    let least : (x : ℕ) → bit rest x ≡ true → entry taken u ≤ x = elim c.loop-rest-test.branch [
-      | else-loop-rest-test w ↦ λ x e. absurd (some_bit rest x e w.loop-rest-test.false)
-      | then-loop-rest-test+then-l-label w ↦ reached rest w.lowest-l.result (entry taken u) (least_of rest w.lowest-l.result c.loop-rest.invariant.2.fit_rest w.loop-rest-test.true w.lowest-l.ensures) w.if-l-label.true
-    ] in
-    stays t least (c.give.ensures.taken ∙ ap₂ (λ (t : List ℕ) (x : ℕ). set t u x) c.loop-rest.invariant.1 c.from.ensures ∙ set-set taken u 255 (entry taken u) ∙ set-get_or taken u 0)
+    let taken = c.args.self.now.taken in let u = c.args.u in
+    stays (goal.at.returns-then-label-lt64-clause-lowest c).At-loop-rest
+    (elim c.loop-rest-test.branch [
+      | else-loop-rest-test w ↦ emptied w.loop-rest-test.false
+      | then-loop-rest-test+then-l-label w ↦ reached c.loop-rest.invariant.2.fit_rest w.loop-rest-test.true w.lowest-l.ensures w.if-l-label.true
+    ])
+    (c.give.ensures.taken ∙ ap (λ (t : List ℕ). set t u (entry taken u)) c.loop-rest.invariant.1 ∙ set-set taken u 255 (entry taken u) ∙ set-get_or taken u 0)
 
 pub returns-else-label-lt64-clause-lowest : goal.returns-else-label-lt64-clause-lowest
 returns-else-label-lt64-clause-lowest c =
-    let t = (goal.at.returns-else-label-lt64-clause-lowest c).At-loop-rest in
-    let taken = c.args.self.now.taken in let u = c.args.u in let rest = c.loop-rest.rest in
-    let least : (x : ℕ) → bit rest x ≡ true → entry taken u ≤ x = elim c.loop-rest-test.branch [
-      | else-loop-rest-test w ↦ λ x e. absurd (some_bit rest x e w.loop-rest-test.false)
-      | then-loop-rest-test+then-l-label w ↦ reached rest w.lowest-l.result (entry taken u) (least_of rest w.lowest-l.result c.loop-rest.invariant.2.fit_rest w.loop-rest-test.true w.lowest-l.ensures) w.if-l-label.true
-    ] in
-    stays t least (c.loop-rest.invariant.1 ∙ ap (set taken u) (sym (c.requires.0.seated.seat u c.requires.1 c.if-label-lt64.false).0) ∙ set-get_or taken u 0)
+    let taken = c.args.self.now.taken in let u = c.args.u in
+    stays (goal.at.returns-else-label-lt64-clause-lowest c).At-loop-rest
+    (elim c.loop-rest-test.branch [
+      | else-loop-rest-test w ↦ emptied w.loop-rest-test.false
+      | then-loop-rest-test+then-l-label w ↦ reached c.loop-rest.invariant.2.fit_rest w.loop-rest-test.true w.lowest-l.ensures w.if-l-label.true
+    ])
+    (c.loop-rest.invariant.1 ∙ ap (set taken u) (sym (c.requires.0.seated.seat u c.requires.1 c.if-label-lt64.false).0) ∙ set-get_or taken u 0)
