@@ -17,6 +17,7 @@ impl<'a> Seats<'a> {
         self.leave(u);
         let mut seen = closed;
         let mut rest = (self.nodes.sets[u] | seen) ^ seen;
+        // Kept: no range and no iterator, as each turn takes from the rest all that it saw.
         while rest != 0 {
             let l = lowest(rest);
             if l == label {

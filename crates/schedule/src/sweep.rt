@@ -3,7 +3,6 @@ ghost use Rattle.std.specs.Prelude.{◌≡◌, ◌+◌, ◌*◌, ◌<◌, ◌≤
 ghost use Rattle.integers.specs.Places.{range};
 ghost use Rattle.instance.specs.Refusal.{refused_in};
 ghost use Rattle.instance.specs.Sheet.{instance_of};
-ghost use Rattle.index.specs.Index.{Indexed};
 ghost use Rattle.schedule.specs.Sweep.{label_at, each, falling, sweep, sweep_length};
 ghost use Rattle.schedule.specs.Written.{written, sweep_of, sweep_room};
 ghost use Rattle.schedule.specs.Writing.{Wrote, Room, edges_by, direction_of, direction_number, end_place, forward_of, backward_by};
@@ -42,6 +41,7 @@ pub(crate) enum End {
 fn edges_by(sheet: &Sheet, end: End) -> Index
     ensures { result ≡ edges_by sheet.now.bytes.now (end_place end) }
 {
+    // Kept: `as`, which is how Rust reads a variant's number.
     let from = sheet.ends + end as usize;
     let past = from + 2 * sheet.edges;
     Index::of(&sheet.bytes[from..past], 2)
@@ -79,18 +79,18 @@ fn backward_nodes(n: usize, lower: &Index, higher: &Index, w: &mut Writer)
     }
 }
 
-// A whole sweep. `lower` has the edges by their higher ends.
-fn whole(sheet: &Sheet, direction: Direction, lower: &Index, w: &mut Writer)
-    requires indexed { Indexed (instance_of sheet.now.bytes.now).high (instance_of sheet.now.bytes.now).edge_count lower.now }
-    requires room { Room w.old (length (sweep (instance_of sheet.now.bytes.now) (direction_number direction))) }
+// A whole sweep.
+fn whole(sheet: &Sheet, direction: Direction, w: &mut Writer)
+    requires { Room w.old (length (sweep (instance_of sheet.now.bytes.now) (direction_number direction))) }
     ensures { Wrote w.old (sweep (instance_of sheet.now.bytes.now) (direction_number direction)) w.new }
 {
+    let lower = edges_by(sheet, End::Higher);
     let higher = edges_by(sheet, End::Lower);
     match direction {
-        Direction::Forward => forward(sheet, lower, &higher, w),
+        Direction::Forward => forward(sheet, &lower, &higher, w),
         Direction::Backward => {
             backward_labels(sheet, w);
-            backward_nodes(sheet.nodes, lower, &higher, w);
+            backward_nodes(sheet.nodes, &lower, &higher, w);
         }
     }
     w.put(Kind::Round, 0, 0, 0);
@@ -123,6 +123,7 @@ pub fn sweep_length(sheet: &[u8]) -> usize
 }
 
 // Writes the forward (0) or the backward (1) sweep of a sheet into a buffer of exactly its length.
+// Kept: the direction is any byte, and 12 for another comes after the sheet's refusals; a narrower type would ask more of callers.
 pub fn write_sweep(sheet: &[u8], direction: u8, out: &mut [u8]) -> Result<(), Refusal>
     ensures { written out.new (refused_in result) ≡ sweep_of sheet.now direction out.old }
 {
@@ -133,8 +134,7 @@ pub fn write_sweep(sheet: &[u8], direction: u8, out: &mut [u8]) -> Result<(), Re
     if out.len() != length_of(&sheet) {
         return Err(Refusal::BufferLength);
     }
-    let lower = edges_by(&sheet, End::Higher);
     let mut w = Writer { out, at: 0 };
-    whole(&sheet, direction, &lower, &mut w);
+    whole(&sheet, direction, &mut w);
     Ok(())
 }
