@@ -1,5 +1,5 @@
 // Sets of labels as the bits of a word. Kept: a word is a plain u64, since the tables of words and every law of them (`Words`, `entry`, `bit`) are of numbers; a struct around it would be opened at each place.
-ghost use Rattle.std.specs.Prelude.{◌≡◌, ◌^◌, ◌<◌};
+ghost use Rattle.std.specs.Prelude.{◌≡◌, true, ℕ, ◌^◌, ◌<◌, ◌≤◌, MatchOption};
 ghost use Rattle.std.specs.Int.Count.{count_trailing_zeros};
 ghost use Rattle.integers.specs.Words.{bit};
 ghost use Rattle.placing.specs.Words.{Joined};
@@ -26,6 +26,17 @@ pub(crate) fn lowest(word: u64) -> u8
 {
     // Kept: at most 64; `try_from` would add a case that cannot happen.
     u64::trailing_zeros(word) as u8
+}
+
+// The lowest label of a word, if it is lower than another.
+pub(crate) fn lowest_below(word: u64, label: u8) -> Option<u8>
+    ensures { MatchOption result ((x : ℕ) → bit word x ≡ true → label ≤ x) (λ l. (word ≡ 0 → ⊥) × (l ≡ count_trailing_zeros 64 word)) }
+{
+    if word == 0 {
+        return None;
+    }
+    let l = lowest(word);
+    if l < label { Some(l) } else { None }
 }
 
 // A word with a label more; none for 255.
