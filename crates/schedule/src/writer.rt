@@ -30,8 +30,8 @@ impl Writer<'_> {
     {
         let [low, high] = index.to_le_bytes();
         let at = self.at;
-        // Kept: `as`, which is how Rust reads a variant's number; a `From` would list the five once more.
         // Kept: five stores. `copy_from_slice` of an array of them takes twice as long, for it is read back before it is stored.
+        // Kept: `as`, which is how Rust reads a variant's number; a `From` would list the five once more.
         self.out[at] = kind as u8;
         self.out[at + 1] = node;
         self.out[at + 2] = low;
