@@ -1,6 +1,7 @@
 // Text written one piece after another.
 
 // A buffer, of which the bytes ahead of `len` are text.
+// Kept: the room that is asked for is each piece's own length, and so no fact of the type.
 #[derive(Drop)]
 pub(crate) struct Text<'a> {
     pub(crate) out: &'a mut [u8],

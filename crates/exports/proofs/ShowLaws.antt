@@ -2,7 +2,7 @@
 -- Assumes nothing.
 use mathlib.Core.Path.{◌≡◌, sym, ap, ap₂, ◌∙◌}
 use mathlib.Core.List.{List, [], ◌∷◌}
-use Prim.Native.Nat.{ℕ, ◌+◌, ◌*◌, ◌≤◌, ◌<◌}
+use Prim.Native.Nat.{ℕ, ◌+◌, ◌*◌, ◌<◌}
 use native.Mathlib.Omega.{arith}
 use lib.ListN.{length, get_or, drop, length-drop}
 use lib.Seq.{length-take-le}
@@ -15,7 +15,7 @@ use Rattle.instance.specs.Sheet.{instance_of}
 use Rattle.instance.specs.Refusal.{refused_in}
 use Rattle.instance.specs.Layout.{edge_refusal_of, edge_from, edge_bytes}
 use Rattle.instance.proofs.Told.{numbered}
-use Rattle.instance.proofs.Sheets.{whole, table_is, table_here, cells_few, edge_there as there}
+use Rattle.instance.proofs.Sheets.{whole, table_is, edge_there as there}
 use Rattle.instance.proofs.Shown.{edge_there, edge_inside, edge_shown, edge_placed, edge_hidden, edge_unplaced}
 use Rattle.exports.specs.Stored.{answered, unlent}
 use Rattle.exports.specs.Reading.{span_of, shown_in}
@@ -27,11 +27,8 @@ module _ (x : Sheet) {e : ℕ} (h : e < x.edges) where
   abbrev s : List ℕ
   s = x.bytes.now
 
-  pub unrefused : edge_refusal_of s e ≡ 0
+  unrefused : edge_refusal_of s e ≡ 0
   unrefused = edge_there s e x.readable (there x h)
-
-  pub table_small : get_or x.tables e 0 ≤ 4_096
-  table_small = omega (arith, table_is x h, table_here x h, cells_few x)
 
   from_by : x.edge_prices + 4 * get_or x.tables e 0 ≡ edge_from s e
   unfolding edge_from

@@ -1,4 +1,5 @@
 // Placing all nodes.
+// Kept: C is answered a refusal's number.
 ghost use Rattle.placing.specs.Placing.{Placed};
 
 use crate::storing::code;

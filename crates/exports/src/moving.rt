@@ -1,4 +1,5 @@
 // Opening, running, reporting.
+// Kept: C lends each of the four buffers by itself, and is answered a refusal's number.
 ghost use Rattle.std.specs.Prelude.{◌≡◌, length};
 ghost use Rattle.rules.specs.Calls.{open_of};
 ghost use Rattle.messages.specs.Lent.{lent, opens};

@@ -1,4 +1,5 @@
 // Reading, and showing an edge.
+// Kept: C is answered a refusal's number.
 ghost use Rattle.std.specs.Prelude.{◌≡◌, length, IfOk};
 ghost use Rattle.instance.specs.Refusal.{number, refused_in};
 ghost use Rattle.instance.specs.Layout.{refused_by, layout_of, edge_refusal_of};
@@ -62,10 +63,7 @@ fn edge_span(sheet: &[u8], edge: usize) -> Result<[usize; 2], Refusal>
     ensures refusal { refused_in result ≡ edge_refusal_of sheet.now edge }
     ensures span { IfOk result (λ p. p ≡ span_of sheet.now edge) }
 {
-    let sheet = Sheet::read(sheet)?;
-    if sheet.edges <= edge {
-        return Err(Refusal::NoSuchRecord);
-    }
+    let sheet = Sheet::with_edge(sheet, edge)?;
     let from = sheet.edge_prices + 4 * sheet.tables[edge];
     Ok([from, 4 * sheet.size(edge)])
 }

@@ -1,4 +1,5 @@
 // Storing numbers in a lent buffer, and answering a refusal by its number.
+// Kept: C is answered a refusal's number.
 ghost use Rattle.std.specs.Prelude.{◌≡◌, [], ◌∷◌, length};
 ghost use Rattle.instance.specs.Refusal.{refused_in};
 ghost use Rattle.exports.specs.Stored.{unlent};
@@ -34,6 +35,7 @@ pub(crate) fn copy(values: &[usize], lent: &mut [u64])
     ensures { lent.new ≡ values.now }
 {
     for (i, place) in lent.iter_mut().enumerate() {
+        // Kept: a usize has 64 bits, and there is no `From`; `try_from` would add a case that cannot happen.
         *place = values[i] as u64;
     }
 }

@@ -1,4 +1,5 @@
 // Writing a sweep.
+// Kept: C gives the direction as a byte, and is answered a refusal's number.
 ghost use Rattle.std.specs.Prelude.{◌≡◌};
 ghost use Rattle.schedule.specs.Written.{written, sweep_of};
 

@@ -7,6 +7,7 @@ use std::marker::Model;
 // An index: of each key below 64 the things that have it, rising, at most 64.
 #[derive(Drop)]
 pub struct Index {
+    // Kept: the array itself, this being the one place that has it.
     entries: [u16; 4160],
 }
 
@@ -26,9 +27,11 @@ impl Index {
     pub fn of(bytes: &[u8], stride: usize) -> Self
         ensures { result ≡ index_of bytes.now stride }
     {
-        let mut index = Index { entries: [0; 4160] };
-        index_into(bytes, stride, &mut index.entries);
-        index
+        let mut entries = [0; 4160];
+        for thing in 0..count(bytes.len(), stride) {
+            enter(&mut entries, usize::from(bytes[stride * thing]), thing);
+        }
+        Index { entries }
     }
 
     // The things that have a key, rising.
@@ -59,27 +62,19 @@ fn count(len: usize, stride: usize) -> usize
 }
 
 // Adds a thing to the row of its key, if there is such a row and it is not full.
+// Kept: the array and no `Index`, so that the laws of filling are of lists; the type's promise is shown once, when it is filled.
 fn enter(index: &mut [u16; 4160], key: usize, thing: usize)
     requires { thing < 65536 }
     ensures { index.new ≡ entered index.old key thing }
 {
     if key < 64 {
         let row = 65 * key;
-        let many = usize::from(index[row]);
+        let many = index[row];
         if many < 64 {
-            let at = row + 1 + many;
+            let at = row + 1 + usize::from(many);
+            // Kept: a thing is below 65,536; `try_from` would add a case that cannot happen, and a range of u16 ends one thing early.
             index[at] = thing as u16;
-            index[row] = (many + 1) as u16;
+            index[row] = many + 1;
         }
-    }
-}
-
-// The entries of the index of things of which the i-th has as its key the byte at `stride` times i, whatever the array held.
-fn index_into(bytes: &[u8], stride: usize, index: &mut [u16; 4160])
-    ensures { index.new ≡ index_of bytes.now stride }
-{
-    *index = [0u16; 4160];
-    for thing in 0..count(bytes.len(), stride) {
-        enter(index, usize::from(bytes[stride * thing]), thing);
     }
 }

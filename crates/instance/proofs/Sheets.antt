@@ -132,18 +132,17 @@ module _ (x : Sheet) where
   pub table_here : {e : ℕ} → e < x.edges → table I e + table_size I e ≤ x.cells
   table_here {e} h = omega (arith, cells_is, table_inside I (edge_there h))
 
+  pub table_few : {e : ℕ} → e < x.edges → get_or x.tables e 0 ≤ 4_096
+  table_few {e} h = omega (arith, table_is h, table_here h, cells_few)
+
   -- the prices
-  pub node_price_bytes : {i : ℕ} → i < x.positions → x.prices + 4 * i + 4 ≤ length s
+  pub prices_there : (x.prices + 4 * x.positions ≤ length s) × (x.edge_prices + 4 * x.cells ≤ length s)
   unfolding first instance_of
-  node_price_bytes {i} h = omega (arith, x.placed.0, positions_is, whole.whole)
+  prices_there = (omega (arith, x.placed.0, positions_is, whole.whole), omega (arith, x.placed.2, cells_is, whole.whole))
 
   pub node_price_is : (i : ℕ) → price_at s (x.prices + 4 * i) ≡ I.node_price i
   unfolding instance_of
   node_price_is i = ap (λ (z : ℕ). price_at s (z + 4 * i)) x.placed.0
-
-  pub edge_price_bytes : {j : ℕ} → j < x.cells → x.edge_prices + 4 * j + 4 ≤ length s
-  unfolding first instance_of
-  edge_price_bytes {j} h = omega (arith, x.placed.2, cells_is, whole.whole)
 
   pub edge_price_is : (j : ℕ) → price_at s (x.edge_prices + 4 * j) ≡ I.edge_price j
   unfolding instance_of

@@ -1,5 +1,6 @@
 // A sheet that was read and not refused.
-ghost use Rattle.std.specs.Prelude.{◌≡◌, ◌<◌, ◌≤◌};
+ghost use Rattle.std.specs.Prelude.{◌≡◌, ◌+◌, ◌*◌, ◌<◌, ◌≤◌, length};
+ghost use Rattle.instance.specs.Bytes.{price_at};
 ghost use Rattle.instance.specs.Sheet.{instance_of, refusal_of};
 ghost use Rattle.instance.specs.Instance.{table_size};
 ghost use Rattle.instance.specs.Layout.{Shows};
@@ -91,19 +92,29 @@ impl<'a> Sheet<'a> {
         &self.bytes[from..from + 4 * self.size(e)]
     }
 
+    // A price among those that stand from `section` on.
+    fn price_in(&self, section: usize, i: usize) -> i64
+        requires { section + 4 * i + 4 ≤ length self.now.bytes.now }
+        ensures { result ≡ price_at self.now.bytes.now (section + 4 * i) }
+    {
+        price(self.bytes, section + 4 * i)
+    }
+
     // The price of a node's cell.
+    #[tactic(auto, using(crate::proofs::Sheets::node_price_is))]
     pub fn node_price(&self, place: usize) -> i64
         requires { place < self.now.positions }
         ensures { result ≡ (instance_of self.now.bytes.now).node_price place }
     {
-        price(self.bytes, self.prices + 4 * place)
+        self.price_in(self.prices, place)
     }
 
     // The price of an edge's cell.
+    #[tactic(auto, using(crate::proofs::Sheets::edge_price_is))]
     pub fn edge_price(&self, cell: usize) -> i64
         requires { cell < self.now.cells }
         ensures { result ≡ (instance_of self.now.bytes.now).edge_price cell }
     {
-        price(self.bytes, self.edge_prices + 4 * cell)
+        self.price_in(self.edge_prices, cell)
     }
 }

@@ -78,21 +78,24 @@ module _ {sets taken reach : List ℕ} {free start before : ℕ} {by words : Lis
     }
 
     -- it was: h', the holder of the label `from` by which it was found, takes it
-    module _ (h : 0 < i) (e : bit (entry words (i - 1)) l ≡ true) {from : ℕ} (came : from ≡ entry by (i - 1)) where
+    module _ (h : 0 < i) (e : bit (entry words (i - 1)) l ≡ true) where
       abbrev s : ℕ
       s = i - 1
+
+      abbrev from : ℕ
+      from = entry by s
 
       step : s < count
       step = omega (arith, v.within)
 
       begun_from : (seen_by start words s from ≡ true) × (bit free from ≡ false)
-      begun_from = subst (λ x. (seen_by start words s x ≡ true) × (bit free x ≡ false)) (sym came) (m.trail.from s step)
+      begun_from = m.trail.from s step
 
       pub from_small : from < 64
       from_small = seen_small m.trail s from (omega arith) begun_from.0
 
       other : from ≡ l → ⊥
-      other q = v.apart s (omega arith) (sym came ∙ q)
+      other = v.apart s (omega arith)
 
       module _ {h' : ℕ} (holds : h' ≡ entry holders' from) where
         holder : (h' < 64) × (entry taken' h' ≡ from) × (entry reach' from ≡ entry sets h')
@@ -105,7 +108,7 @@ module _ {sets taken reach : List ℕ} {free start before : ℕ} {by words : Lis
         left_unplaced {t} q = let z = get_or-set_same taken' h' 255 0 (omega (arith, holder_few, v.linked.size_taken)) in omega (arith, ap (λ (x : List ℕ). entry x h') q)
 
         pub holder_has : bit (entry sets h') l ≡ true
-        holder_has = ap (λ (w : ℕ). bit w l) (sym holder.2 ∙ ap (entry reach') came ∙ v.same s (omega arith)) ∙ (m.trail.leads s l step e).0
+        holder_has = ap (λ (w : ℕ). bit w l) (sym holder.2 ∙ v.same s (omega arith)) ∙ (m.trail.leads s l step e).0
 
         not_root : root ≡ h' → ⊥
         not_root q = omega (arith, ap (entry taken') q, holder.1, from_small, v.unplaced)
@@ -123,7 +126,7 @@ module _ {sets taken reach : List ℕ} {free start before : ℕ} {by words : Lis
           moving_more {taken''} {holders''} {reach''} {free''} et er ef k = record {
             within = omega (arith, v.within);
             found = begun_from.0;
-            apart = λ t g q. m.trail.once t s g step (q ∙ came);
+            apart = λ t g. m.trail.once t s g step;
             same = λ t g. ap (λ (r : List ℕ). entry r (entry by t)) er ∙ get_or-set_other reach' l (entry by t) (entry sets h') 0 (v.apart t (omega arith)) ∙ v.same t (omega arith);
             stays = λ w d. by-same w h'
                 (λ q. let g : entry taken'' w < 64 = rw (q, at) moving_small in

@@ -22,12 +22,13 @@ fn labels_below(label: u8) -> u64
     }
 }
 
-// How many labels of a word are below one.
+// How many labels of a word are below one: a count, and no kind.
 fn rank_of(word: u64, label: u8) -> u8
     requires { rank word label < 256 }
     ensures { result ≡ rank word label }
 {
     let mask = labels_below(label);
+    // Kept: at most 64; `try_from` would add a case that cannot happen.
     u64::count_ones(word & mask) as u8
 }
 
@@ -48,7 +49,7 @@ fn write_members(unplaced: &Unplaced, out: &mut [u8])
 {
     let root = unplaced.root;
     for (node, byte) in out.iter_mut().enumerate() {
-        let label = usize::from(unplaced.taken[node]);
+        let label = unplaced.taken[node];
         let member = (node == root) | ((node < root) & has(unplaced.seen, label));
         *byte = u8::from(member);
     }

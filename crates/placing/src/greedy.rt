@@ -16,7 +16,7 @@ pub(crate) fn take_first(nodes: &Nodes) -> Option<[u8; 64]>
         let open = nodes.sets[u] & free;
         if open != 0 {
             let l = lowest(open);
-            taken[u] = l as u8;
+            taken[u] = l;
             free ^= bit_of(l);
         } else if nodes.own[u] {
             taken[u] = 255;

@@ -4,7 +4,7 @@ ghost use Rattle.assignment.specs.First.{First};
 ghost use Rattle.placing.specs.Words.{entry, All, Seated, Lowered, Lowest};
 
 use crate::seats::Seats;
-use crate::words::{bit_of, lowest, with_label};
+use crate::words::{bit_of, lowest_below, with_label};
 
 impl<'a> Seats<'a> {
     // Lets node `u` take the lowest of its labels with which all nodes can be placed. Labels of `closed` are taken by nodes below it.
@@ -17,11 +17,8 @@ impl<'a> Seats<'a> {
         self.leave(u);
         let mut seen = closed;
         let mut rest = (self.nodes.sets[u] | seen) ^ seen;
-        while rest != 0 {
-            let l = lowest(rest);
-            if l as u8 == label {
-                break;
-            }
+        // Kept: no range and no iterator, as each turn takes from the rest all that it saw.
+        while let Some(l) = lowest_below(rest, label) {
             match self.chain(bit_of(l), seen, u) {
                 Ok(()) => return,
                 Err(more) => seen = more,
@@ -29,7 +26,7 @@ impl<'a> Seats<'a> {
             rest = (rest | seen) ^ seen;
         }
         if label < 64 {
-            self.give(u, usize::from(label));
+            self.give(u, label);
         }
     }
 

@@ -17,8 +17,8 @@ impl<'a> Seats<'a> {
         let mut l = met.label;
         for i in (0..met.count).rev() {
             if has(steps.words[i], l) {
-                let from = usize::from(steps.by[i]);
-                let holder = usize::from(self.holders[from]);
+                let from = steps.by[i];
+                let holder = usize::from(self.holders[usize::from(from)]);
                 self.leave(holder);
                 self.give(holder, l);
                 l = from;

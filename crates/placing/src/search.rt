@@ -18,13 +18,12 @@ pub(crate) struct Steps {
 // The free label that a search met, and after how many steps.
 #[derive(Clone, Copy)]
 pub(crate) struct Meeting {
-    pub label: usize,
+    pub label: u8,
     pub count: usize,
 }
 
 impl<'a> Seats<'a> {
     // Goes from the labels of `start`, none of which is free, layer by layer to one that is. Labels of `before` are passed over. Where none is met, the labels seen.
-    // Kept: `count` goes up by hand, as the loop goes by the labels of a word and ends within a layer.
     pub(crate) fn search(&self, start: u64, before: u64, steps: &mut Steps) -> Result<Meeting, u64>
         requires { (bit_and start self.now.free ≡ 0) × ((l : ℕ) → bit start l ≡ true → bit before l ≡ false) }
         ensures { MatchResult result (λ met. Met self.now.reach self.now.free start before steps.new.by steps.new.words met.count met.label) (λ seen. Ended self.now.reach self.now.free start before seen) }
@@ -34,10 +33,12 @@ impl<'a> Seats<'a> {
         let mut layer = start;
         let mut next = 0u64;
         let mut count = 0;
+        // Kept: `count` goes up by hand, as the loop goes by the labels of a word and ends within a layer.
         while layer != 0 {
             let l = lowest(layer);
-            let new = (self.reach[l] | seen) ^ seen;
-            steps.by[count] = l as u8;
+            let from = usize::from(l);
+            let new = (self.reach[from] | seen) ^ seen;
+            steps.by[count] = l;
             steps.words[count] = new;
             count += 1;
             let met = new & free;

@@ -35,16 +35,18 @@ impl<'a> Seats<'a> {
     }
 
     // Node `u`, which takes no label, takes `l`, which is free and one of its own.
-    pub(crate) fn give(&mut self, u: usize, l: usize)
+    pub(crate) fn give(&mut self, u: usize, l: u8)
         requires { (u < 64) × (l < 64) × (64 ≤ entry self.old.taken u) × (bit self.old.free l ≡ true) × (bit (entry self.old.nodes.now.sets u) l ≡ true) }
         ensures same { self.new.nodes.now ≡ self.old.nodes.now }
         ensures taken { self.new.taken ≡ set self.old.taken u l }
         ensures reach { self.new.reach ≡ set self.old.reach l (entry self.old.nodes.now.sets u) }
         ensures free { self.new.free ≡ bit_xor self.old.free (2 ^ l) }
     {
-        self.taken[u] = l as u8;
-        self.holders[l] = u as u8;
-        self.reach[l] = self.nodes.sets[u];
+        let at = usize::from(l);
+        self.taken[u] = l;
+        // Kept: a node is below 64; `try_from` would add a case that cannot happen.
+        self.holders[at] = u as u8;
+        self.reach[at] = self.nodes.sets[u];
         self.free ^= bit_of(l);
     }
 

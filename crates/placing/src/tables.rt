@@ -33,7 +33,7 @@ fn word_of(labels: &[u8]) -> u64
 {
     let mut word = 0;
     for label in labels {
-        word |= bit_of(usize::from(*label));
+        word |= bit_of(*label);
     }
     word
 }
@@ -43,6 +43,7 @@ fn row_of(labels: &[u8]) -> Row
     requires { Labels (entry labels.now) (length labels.now) }
     ensures { Worded (entry labels.now) (length labels.now) result.word result.own }
 {
+    // Kept: 255 is the sheet's own label, and no mark for none.
     let own = labels[labels.len() - 1] == 255;
     let word = word_of(&labels[..labels.len() - usize::from(own)]);
     Row { word, own }

@@ -1,11 +1,12 @@
-// Sets of labels as the bits of a word. Kept: a word is a plain u64, since the tables of words and every law of them (`Words`, `entry`, `bit`) are of numbers; a struct around it would be opened at each place.
-ghost use Rattle.std.specs.Prelude.{◌≡◌, ◌^◌, ◌<◌};
+// Sets of labels as the bits of a word.
+// Kept: a word is a plain u64, since the tables of words and every law of them (`Words`, `entry`, `bit`) are of numbers; a struct around it would be opened at each place.
+ghost use Rattle.std.specs.Prelude.{◌≡◌, true, ℕ, ◌^◌, ◌<◌, ◌≤◌, MatchOption};
 ghost use Rattle.std.specs.Int.Count.{count_trailing_zeros};
 ghost use Rattle.integers.specs.Words.{bit};
 ghost use Rattle.placing.specs.Words.{Joined};
 
 // The word of one label.
-pub(crate) fn bit_of(l: usize) -> u64
+pub(crate) fn bit_of(l: u8) -> u64
     requires { l < 64 }
     ensures { result ≡ 2 ^ l }
 {
@@ -13,18 +14,30 @@ pub(crate) fn bit_of(l: usize) -> u64
 }
 
 // Whether the word has the label: none has one from 64 on.
-pub(crate) fn has(word: u64, l: usize) -> bool
+pub(crate) fn has(word: u64, l: u8) -> bool
     ensures { result ≡ bit word l }
 {
     l < 64 && (word >> l) & 1 == 1
 }
 
 // The lowest label of a word that has one.
-pub(crate) fn lowest(word: u64) -> usize
+pub(crate) fn lowest(word: u64) -> u8
     requires { word ≡ 0 → ⊥ }
     ensures { result ≡ count_trailing_zeros 64 word }
 {
-    u64::trailing_zeros(word) as usize
+    // Kept: at most 64; `try_from` would add a case that cannot happen.
+    u64::trailing_zeros(word) as u8
+}
+
+// The lowest label of a word, if it is lower than the one that is given.
+pub(crate) fn lowest_below(word: u64, label: u8) -> Option<u8>
+    ensures { MatchOption result ((x : ℕ) → bit word x ≡ true → label ≤ x) (λ l. (word ≡ 0 → ⊥) × (l ≡ count_trailing_zeros 64 word)) }
+{
+    if word == 0 {
+        return None;
+    }
+    let l = lowest(word);
+    if l < label { Some(l) } else { None }
 }
 
 // A word with a label more; none for 255.
@@ -32,7 +45,7 @@ pub(crate) fn with_label(word: u64, label: u8) -> u64
     ensures { Joined word label result }
 {
     if label < 64 {
-        word | bit_of(usize::from(label))
+        word | bit_of(label)
     } else {
         word
     }

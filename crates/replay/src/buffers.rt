@@ -78,6 +78,7 @@ impl Buffers {
             Buffers::filled(
                 lengths,
                 |place| i64::from(place) * 7919 - 12345,
+                // Kept: below 3; `try_from` would add a case that cannot happen.
                 |place| (place % 3) as u8,
             )
         } else {

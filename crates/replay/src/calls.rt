@@ -52,7 +52,7 @@ impl<'a> Case<'a> {
             return Some(false);
         };
         let ran = buffers.run(self.sheet, records);
-        let numbers = [number(ran.refusal), ran.done as u64, ran.stuck as u64];
+        let numbers = [number(ran.refusal), wide(ran.done), wide(ran.stuck)];
         Some(answers.leave(&numbers, buffers.hash()))
     }
 
@@ -96,6 +96,12 @@ impl<'a> Case<'a> {
     }
 }
 
+// A count, as the file has numbers.
+fn wide(count: usize) -> u64 {
+    // Kept: a usize has 64 bits, and there is no `From`; `try_from` would add a case that cannot happen.
+    count as u64
+}
+
 // A refusal's number, 0 for none.
 fn number(refusal: Option<Refusal>) -> u64 {
     refusal.map_or(0, |refusal| u64::from(refusal.number()))
@@ -107,7 +113,7 @@ fn show(sheet: &[u8], reader: &mut Reader) -> Option<bool> {
     let answers = reader.answers();
     let shown = instance::shown_edge(sheet, edge);
     let prices = shown.unwrap_or(&[]);
-    let numbers = [number(shown.err()), prices.len() as u64];
+    let numbers = [number(shown.err()), wide(prices.len())];
     Some(answers.are(&numbers, Hash::new().bytes(prices)))
 }
 
@@ -149,14 +155,15 @@ fn read(sheet: &[u8], reader: &mut Reader) -> Option<bool> {
     let answers = reader.answers();
     match Sheet::read(sheet) {
         Ok(sheet) => {
-            let numbers = [
+            let counts = [
                 0,
-                sheet.nodes as u64,
-                sheet.labels as u64,
-                sheet.edges as u64,
-                sheet.positions as u64,
-                sheet.cells as u64,
+                sheet.nodes,
+                sheet.labels,
+                sheet.edges,
+                sheet.positions,
+                sheet.cells,
             ];
+            let numbers = counts.map(wide);
             let starts = Hash::new().words(&sheet.starts);
             Some(answers.are(&numbers, starts.words(&sheet.tables)))
         }

@@ -43,6 +43,7 @@ impl<'a> Reader<'a> {
 
     // A word that is a length, a place or the number of an edge.
     pub fn size(&mut self) -> usize {
+        // Kept: four bytes fit a usize, which has 64 bits; `From` is for two, and `try_from` would add a case that cannot happen.
         self.word() as usize
     }
 

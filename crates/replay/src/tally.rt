@@ -81,6 +81,11 @@ impl Tally {
         self.cases = self.cases.saturating_add(1);
     }
 
+    fn of(&mut self, op: Op) -> &mut Counts {
+        // Kept: `as`, which is how Rust reads a variant's number.
+        &mut self.counts[op as usize]
+    }
+
     // Counts one call. An edit of the buffers is no call of the crates, and is not compared. But where the buffers
     // after it are not those of the file, this program or the file is wrong, and so that it shows, it counts as an open
     // that differed.
@@ -92,11 +97,11 @@ impl Tally {
         match op {
             Op::Resize | Op::Poke => {
                 if verdict == Verdict::Differed {
-                    let open = &mut self.counts[Op::Open as usize];
+                    let open = self.of(Op::Open);
                     open.differed = open.differed.saturating_add(1);
                 }
             }
-            _ => self.counts[op as usize].add(verdict),
+            _ => self.of(op).add(verdict),
         }
     }
 }
@@ -104,6 +109,7 @@ impl Tally {
 impl fmt::Display for Tally {
     fn fmt<W: fmt::Write>(&self, f: &mut fmt::Formatter<W>) -> fmt::Result {
         for op in Op::CALLS {
+            // Kept: `as`, as in `of`, which is lent the tally to be changed.
             let counts = self.counts[op as usize];
             writeln!(f, "{op} {counts}")?;
         }

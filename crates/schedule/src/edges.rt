@@ -13,6 +13,7 @@ fn from_edges(edges: &Index, u: usize, w: &mut Writer)
     ensures { Wrote w.old (received edges.now u) w.new }
 {
     for edge in edges.row(u) {
+        // Kept: a node is below 64; `try_from` would add a case that cannot happen.
         w.put(Kind::FromEdge, u as u8, *edge, 1);
     }
 }
@@ -27,6 +28,7 @@ fn to_edges(edges: &Index, u: usize, more: usize, w: &mut Writer)
     let first = row.len() + more;
     for (j, edge) in row.iter().enumerate() {
         let share = first - j;
+        // Kept: a node is below 64 and a share at most 65; `try_from` would add a case that cannot happen.
         w.put(Kind::ToEdge, u as u8, *edge, share as u8);
     }
 }

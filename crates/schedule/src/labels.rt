@@ -41,6 +41,7 @@ pub(crate) fn to_labels(u: usize, positions: usize, w: &mut Writer)
     ensures { Wrote w.old (to_labels u (range 0 positions)) w.new }
 {
     for k in 0..positions {
+        // Kept: both are below 256; `try_from` would add a case that cannot happen.
         w.put(Kind::ToLabel, u as u8, k as u16, 1);
     }
 }
@@ -58,6 +59,7 @@ fn mark(spots: &mut [Spot; 1024], at: usize, degree: usize, u: usize)
     ensures { Marked spots.old at u degree spots.new }
 {
     for k in 0..degree {
+        // Kept: both are below 256; `try_from` would add a case that cannot happen.
         spots[at + k] = Spot {
             node: u as u8,
             position: k as u8,
@@ -81,6 +83,7 @@ pub(crate) fn spots(sheet: &Sheet) -> [Spot; 1024]
 }
 
 // Kind 4 with share 1 at each place that has the label.
+// Kept: it and `from_labels` ask that places are below 1,024. A struct of the index and the spots would be made once, for these two, and say the same.
 fn from_label(places: &Index, spots: &[Spot; 1024], label: usize, w: &mut Writer)
     requires rows { Rows places.now 1024 }
     requires label_bound { label < 64 }

@@ -42,6 +42,7 @@ pub(crate) enum End {
 fn edges_by(sheet: &Sheet, end: End) -> Index
     ensures { result ≡ edges_by sheet.now.bytes.now (end_place end) }
 {
+    // Kept: `as`, which is how Rust reads a variant's number.
     let from = sheet.ends + end as usize;
     let past = from + 2 * sheet.edges;
     Index::of(&sheet.bytes[from..past], 2)
@@ -80,6 +81,7 @@ fn backward_nodes(n: usize, lower: &Index, higher: &Index, w: &mut Writer)
 }
 
 // A whole sweep. `lower` has the edges by their higher ends.
+// Kept: `lower` is lent. Made here, beside the other index, it needs no `requires`, but the sweeps of 256 edges then take a tenth longer.
 fn whole(sheet: &Sheet, direction: Direction, lower: &Index, w: &mut Writer)
     requires indexed { Indexed (instance_of sheet.now.bytes.now).high (instance_of sheet.now.bytes.now).edge_count lower.now }
     requires room { Room w.old (length (sweep (instance_of sheet.now.bytes.now) (direction_number direction))) }
@@ -123,6 +125,7 @@ pub fn sweep_length(sheet: &[u8]) -> usize
 }
 
 // Writes the forward (0) or the backward (1) sweep of a sheet into a buffer of exactly its length.
+// Kept: the direction is any byte, and 12 for another comes after the sheet's refusals; a narrower type would ask more of callers.
 pub fn write_sweep(sheet: &[u8], direction: u8, out: &mut [u8]) -> Result<(), Refusal>
     ensures { written out.new (refused_in result) ≡ sweep_of sheet.now direction out.old }
 {

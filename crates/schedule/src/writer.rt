@@ -11,6 +11,7 @@ pub(crate) enum Kind {
 }
 
 // A buffer, of which the bytes ahead of `at` are written.
+// Kept: the room that is asked for is each piece's own number of records, and so no fact of the type.
 #[derive(Drop)]
 pub(crate) struct Writer<'a> {
     pub(crate) out: &'a mut [u8],
@@ -30,6 +31,7 @@ impl Writer<'_> {
         let [low, high] = index.to_le_bytes();
         let at = self.at;
         // Kept: five stores. `copy_from_slice` of an array of them takes twice as long, for it is read back before it is stored.
+        // Kept: `as`, which is how Rust reads a variant's number; a `From` would list the five once more.
         self.out[at] = kind as u8;
         self.out[at + 1] = node;
         self.out[at + 2] = low;

@@ -25,6 +25,7 @@ fn argument<'a, R: Env>(rt: &R, text: &'a mut [u8]) -> &'a [u8]
     }
 }
 
+// Kept: the direction is the byte that `write_sweep` takes.
 fn write(rt: &HostRuntime, sheet: &[u8], direction: u8) -> io::Result<()> {
     let mut out = [0u8; 7_685];
     match sweep_at_start(sheet, direction, &mut out) {

@@ -7,6 +7,7 @@ use instance::Refusal;
 use schedule::{sweep_length, write_sweep};
 
 // A text that is neither "0" nor "1" names none: 2, which a sweep refuses once the sheet passes.
+// Kept: the byte that `write_sweep` takes. An `Option` would have the sheet's refusals come first here once more.
 #[tactic(auto, unfolding(crate::specs::Swept::direction_of))]
 pub(crate) fn direction_of(text: &[u8]) -> u8
     ensures { result ≡ direction_of text.now }
@@ -19,6 +20,7 @@ pub(crate) fn direction_of(text: &[u8]) -> u8
 }
 
 // Writes a sweep at the start of a buffer that has room for the longest one, of 1,537 records; or the refusal.
+// Kept: the direction is the byte that `write_sweep` takes.
 pub(crate) fn sweep_at_start<'a>(
     sheet: &[u8],
     direction: u8,

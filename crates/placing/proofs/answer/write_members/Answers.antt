@@ -24,6 +24,6 @@ loop-node-init c = let q = c.args.unplaced.now in fill_none (members q.root q.se
 pub loop-node-preserved : goal.loop-node-preserved
 loop-node-preserved c =
     let q = c.args.unplaced.now in let l = c.loop-node in
-    let e = c.from.ensures ∙ member_is q.root q.seen q.taken l.node (c.has.ensures ∙ ap (bit q.seen) c.from-label.ensures) in
+    let e = c.from.ensures ∙ member_is q.root q.seen q.taken l.node c.has.ensures in
     let f = members q.root q.seen q.taken in
     subst (λ b. Filling f c.args.out.now (set l.out l.node b) (l.node + 1)) (sym e) (fill_more f 0 l.invariant c.loop-node-test.true)

@@ -1,7 +1,6 @@
 -- `word_of` meets its contract: the word so far is that of the labels so far.
 -- Assumes nothing.
-use Prim.Native.Nat.{ℕ, ◌^◌}
-use mathlib.Core.Path.{refl, sym, ap, ap₂, ◌∙◌}
+use mathlib.Core.Path.{refl, sym, ap₂, ◌∙◌}
 use lib.Bits.{bit_or}
 use Rattle.integers.specs.Words.{word_of}
 use Rattle.placing.specs.Words.{entry}
@@ -14,4 +13,4 @@ loop-label-init c = refl
 
 pub loop-label-preserved : goal.loop-label-preserved
 loop-label-preserved c =
-    ap₂ bit_or c.loop-label.invariant (c.bit_of-word.ensures ∙ ap (λ (l : ℕ). 2 ^ l) c.from.ensures) ∙ sym (word_more (entry c.args.labels.now) c.loop-label.label-index)
+    ap₂ bit_or c.loop-label.invariant c.bit_of-word.ensures ∙ sym (word_more (entry c.args.labels.now) c.loop-label.label-index)

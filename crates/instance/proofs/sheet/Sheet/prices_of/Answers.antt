@@ -3,7 +3,7 @@ use Rattle.std.proofs.Common.{◌≡◌, ℕ, ◌+◌, ◌-◌, ◌*◌, ◌≤�
 use Rattle.instance.specs.declared.sheet.Sheet.{Sheet}
 use Rattle.instance.specs.Layout.{edge_refusal_of, edge_from, edge_bytes, edge_place_of}
 use Rattle.instance.proofs.Shown.{edge_there, edge_shown, edge_placed, edge_inside}
-use Rattle.instance.proofs.Sheets.{whole, edges_few, cells_few, table_is, table_here, edge_prices_few, edge_there as there}
+use Rattle.instance.proofs.Sheets.{whole, edges_few, table_is, table_few, edge_prices_few, edge_there as there}
 use Rattle.instance.proofs.sheet.Sheet.prices_of.Goals as goal
 use Rattle.instance.proofs.sheet.Sheet.prices_of.Goals.{After-size, Start}
 
@@ -18,9 +18,6 @@ module _ (q : Start) where
   begins : from ≡ edge_from x.bytes.now q.args.e
   unfolding edge_from
   begins = omega (arith, x.placed.2, table_is x q.requires)
-
-  small : 4 * get_or x.tables q.args.e 0 ≤ 16_384
-  small = omega (arith, table_is x q.requires, table_here x q.requires, cells_few x)
 
 -- and how long it is
 module _ (p : After-size) where
@@ -42,15 +39,14 @@ pub bounds-self-e : goal.bounds-self-e
 bounds-self-e c = omega (arith, edges_few c.args.self.now, c.requires)
 
 pub overflow_mul-from : goal.overflow_mul-from
-overflow_mul-from c = omega (arith, small (goal.at.overflow_mul-from c).Start)
+overflow_mul-from c = omega (arith, table_few c.args.self.now c.requires)
 
 pub overflow_add-from : goal.overflow_add-from
-overflow_add-from c =
-    omega (arith, small (goal.at.overflow_add-from c).Start, edge_prices_few c.args.self.now)
+overflow_add-from c = let x = c.args.self.now in omega (arith, table_few x c.requires, edge_prices_few x)
 
 pub overflow_add-result : goal.overflow_add-result
 overflow_add-result c =
-    omega (arith, small (goal.at.overflow_add-result c).Start, edge_prices_few c.args.self.now, c.size.ensures.2)
+    let x = c.args.self.now in omega (arith, table_few x c.requires, edge_prices_few x, c.size.ensures.2)
 
 pub slice_bounds-result-end : goal.slice_bounds-result-end
 slice_bounds-result-end c = omega (arith, inside c)

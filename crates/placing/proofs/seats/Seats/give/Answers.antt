@@ -1,5 +1,5 @@
 -- `give` meets its contract: the tables stay linked.
-use mathlib.Core.Path.{sym, subst}
+use Rattle.std.proofs.Math.Path.{sym, subst₂}
 use Prim.Native.Nat.{ℕ}
 use lib.Bits.{bit_xor}
 use lib.ListN.{set}
@@ -12,6 +12,6 @@ invariant_of-self c =
     let q = c.requires in
     let s = c.args.self.now in
     record {
-      linked = subst (λ (w : ℕ). Linked s.nodes.now.sets (set s.taken c.args.u c.args.l) (set s.holders c.args.l c.args.u) (set s.reach c.args.l (entry s.nodes.now.sets c.args.u)) (bit_xor s.free w))
-          (sym c.bit_of.ensures) (linked_take s.linked c.args.l q.0 q.1 q.2 q.3 q.4);
+      linked = subst₂ (λ (at w : ℕ). Linked s.nodes.now.sets (set s.taken c.args.u c.args.l) (set s.holders at c.args.u) (set s.reach at (entry s.nodes.now.sets c.args.u)) (bit_xor s.free w))
+          (sym c.from-at.ensures) (sym c.bit_of.ensures) (linked_take s.linked c.args.l q.0 q.1 q.2 q.3 q.4);
     }

@@ -6,9 +6,9 @@ use lib.ListN.{set}
 use Rattle.placing.proofs.Settling.{Trying}
 use Rattle.placing.proofs.seats.Seats.lower.Given as goal
 
-abbrev pub invariant-loop-rest : goal.invariant-loop-rest
-invariant-loop-rest l = (l.self.nodes.now ≡ l.fn.self.nodes.now) × (l.self.taken ≡ set l.fn.self.taken l.u 255)
+abbrev pub invariant-loop-l : goal.invariant-loop-l
+invariant-loop-l l = (l.self.nodes.now ≡ l.fn.self.nodes.now) × (l.self.taken ≡ set l.fn.self.taken l.u 255)
     × Trying l.fn.self.nodes.now.sets l.fn.self.taken l.self.holders l.self.reach l.closed l.u l.self.free l.seen l.rest
 
-abbrev pub decreases-loop-rest : goal.decreases-loop-rest
-decreases-loop-rest l = 64 - count_trailing_zeros 64 l.rest
+abbrev pub decreases-loop-l : goal.decreases-loop-l
+decreases-loop-l l = 64 - count_trailing_zeros 64 l.rest

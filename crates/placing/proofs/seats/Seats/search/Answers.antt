@@ -47,20 +47,20 @@ pub returns-then-met-ne0 : goal.returns-then-met-ne0
 returns-then-met-ne0 c =
     let t = (goal.at.returns-then-met-ne0 c).After-lowest-l in
     let h = (head t).loop-layer in
-    subst (Met (head t).args.self.now.reach (head t).args.self.now.free (head t).args.start (head t).args.before (set h.steps.by h.count (l t)) (set h.steps.words h.count (newly (head t).args.self.now.reach h.seen (l t))) (h.count + 1))
-    (sym c.lowest-label.ensures) (searching_met h.invariant.0 (l t) (left t) (fits t) c.if-met-ne0.true)
+    rw c.from-from.ensures (subst (Met (head t).args.self.now.reach (head t).args.self.now.free (head t).args.start (head t).args.before (set h.steps.by h.count (l t)) (set h.steps.words h.count (newly (head t).args.self.now.reach h.seen (l t))) (h.count + 1))
+    (sym (rw c.from-from.ensures at c.lowest-label.ensures)) (searching_met h.invariant.0 (l t) (left t) (fits t) (rw c.from-from.ensures at c.if-met-ne0.true)))
 
 pub returns-then-all-eq0 : goal.returns-then-all-eq0
 returns-then-all-eq0 c =
-    let t = (goal.at.returns-then-all-eq0 c).After-lowest-l in turn_last (head t).loop-layer.invariant.0 (head t).loop-layer.invariant.1 (fits t) (some t) (l t) (low t) c.if-met-ne0.false c.if-left-eq0.true c.if-all-eq0.true
+    let t = (goal.at.returns-then-all-eq0 c).After-lowest-l in rw c.from-from.ensures (turn_last (head t).loop-layer.invariant.0 (head t).loop-layer.invariant.1 (fits t) (some t) (l t) (low t) (rw c.from-from.ensures at c.if-met-ne0.false) c.if-left-eq0.true (rw c.from-from.ensures at c.if-all-eq0.true))
 
 pub loop-layer-preserved-then-left-eq0 : goal.loop-layer-preserved-then-left-eq0
 loop-layer-preserved-then-left-eq0 c =
-    let t = (goal.at.loop-layer-preserved-then-left-eq0 c).After-lowest-l in turn_next (head t).loop-layer.invariant.0 (head t).loop-layer.invariant.1 (fits t) (some t) (l t) (low t) c.if-met-ne0.false c.if-left-eq0.true
+    let t = (goal.at.loop-layer-preserved-then-left-eq0 c).After-lowest-l in rw c.from-from.ensures (turn_next (head t).loop-layer.invariant.0 (head t).loop-layer.invariant.1 (fits t) (some t) (l t) (low t) (rw c.from-from.ensures at c.if-met-ne0.false) c.if-left-eq0.true)
 
 pub loop-layer-preserved : goal.loop-layer-preserved
 loop-layer-preserved c =
-    let t = (goal.at.loop-layer-preserved c).After-lowest-l in turn_same (head t).loop-layer.invariant.0 (head t).loop-layer.invariant.1 (fits t) (some t) (l t) (low t) c.if-met-ne0.false c.if-left-eq0.false
+    let t = (goal.at.loop-layer-preserved c).After-lowest-l in rw c.from-from.ensures (turn_same (head t).loop-layer.invariant.0 (head t).loop-layer.invariant.1 (fits t) (some t) (l t) (low t) (rw c.from-from.ensures at c.if-met-ne0.false) c.if-left-eq0.false)
 
 pub returns : goal.returns
 returns c = let h = c.loop-layer.invariant in searching_ended h.0 (queue_empty h.1 c.loop-layer-test.false)

@@ -1,8 +1,0 @@
--- `index_into` meets its contract: zeros, the index of the things so far, and of one more.
-use mathlib.Core.Path.{◌≡◌}
-use Rattle.index.specs.Index.{key_at}
-use Rattle.index.proofs.Filling.{filled}
-use Rattle.index.proofs.table.index_into.Given as goal
-
-abbrev pub invariant-loop-thing : goal.invariant-loop-thing
-invariant-loop-thing l = l.index ≡ filled (key_at l.bytes l.stride) l.thing
