@@ -14,6 +14,7 @@ use messages::{open, report, run};
 const MOST_BYTES: usize = 40_960;
 
 // Opens, runs and reports in buffers of the sheet's own lengths.
+// Kept: the buffers one by one, as the three calls are lent them.
 fn answer_in(
     sheet: &[u8],
     records: &[u8],

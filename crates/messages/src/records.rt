@@ -30,6 +30,7 @@ pub(crate) enum Kind {
 
 impl Kind {
     // The kind by its number.
+    #[tactic(auto, using(crate::proofs::KindLaws::kind_past), unfolding(rules::specs::Run::kind_of))]
     fn of(number: u8) -> Option<Kind>
         ensures { result ≡ kind_as (kind_of number) }
     {
@@ -69,6 +70,7 @@ impl Record {
 }
 
 // Whether a share is 1 to 64.
+#[tactic(auto, using(crate::proofs::RecordLaws::share_none, crate::proofs::RecordLaws::share_some), unfolding(rules::specs::Run::legal_share))]
 fn legal_share(share: u8) -> bool
     ensures { result ≡ legal_share share }
 {
