@@ -75,6 +75,7 @@ fn excess_line(line: &[i64], k: usize, end: End, amounts: &Amounts, limit: Limit
 }
 
 // Adds to each cell of the k-th row of a table its amount.
+// Kept, and `move_cells`: over slices, and no methods of a struct that holds them as `&mut`. Tried; of a buffer of which a part was lent to such a struct the proof then knows no more than its length.
 pub(crate) fn move_line(line: &mut [i64], k: usize, end: End, amounts: &Amounts)
     requires { Line k line.old }
     ensures { line.new ≡ moved_line (by_rows end) k amounts.now.each line.old }
