@@ -63,6 +63,7 @@ fn count(len: usize, stride: usize) -> usize
 
 // Adds a thing to the row of its key, if there is such a row and it is not full.
 // Kept: the array and no `Index`, so that the laws of filling are of lists; the type's promise is shown once, when it is filled.
+#[tactic(auto, using(crate::proofs::Filling::entered_full, crate::proofs::Filling::entered_in, crate::proofs::Filling::entered_past))]
 fn enter(index: &mut [u16; 4160], key: usize, thing: usize)
     requires { thing < 65536 }
     ensures { index.new ≡ entered index.old key thing }

@@ -10,6 +10,7 @@ ghost use Rattle.instance.specs.Passes.{LabelsBegun, UsableAsked};
 use crate::labels::usable;
 
 // The first label of node `u`.
+#[tactic(auto, using(crate::proofs::UsableCells::first_inside, crate::proofs::UsableCells::first_is))]
 fn first_label(sheet: &[u8], n: usize, starts: &[usize; 64], u: usize) -> usize
     requires { LabelsBegun sheet.now n starts.now × (u < (instance_of sheet.now).node_count) }
     ensures { result ≡ (instance_of sheet.now).label (first (instance_of sheet.now) u) }

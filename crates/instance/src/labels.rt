@@ -6,6 +6,7 @@ ghost use Rattle.instance.specs.Instance.{exclusive, usable};
 const VANISHED: usize = 255;
 
 // Whether no two nodes may take a label.
+#[tactic(auto, unfolding(crate::specs::Instance::exclusive))]
 pub fn exclusive(label: usize) -> bool
     ensures { result ≡ exclusive label }
 {
@@ -13,6 +14,7 @@ pub fn exclusive(label: usize) -> bool
 }
 
 // Whether a cell with these two labels may be in a matching: they differ, or any number of nodes may take them.
+#[tactic(auto, unfolding(crate::specs::Instance::usable))]
 pub fn usable(low: usize, high: usize) -> bool
     ensures { result ≡ usable low high }
 {

@@ -5,9 +5,6 @@ use Rattle.integers.proofs.Checks.{folded_none, folded_more, folded_all}
 use Rattle.instance.specs.Sheet.{none_usable, usable_ok}
 use Rattle.instance.proofs.cells.each_usable.Goals as goal
 
-pub edge_usable-ok-requires : goal.edge_usable-ok-requires
-edge_usable-ok-requires c = (c.requires.0, omega (arith, c.loop-e-test.true, c.requires.1))
-
 pub loop-e-preserved : goal.loop-e-preserved
 loop-e-preserved c = folded_more c.loop-e.invariant c.loop-e-test.true c.edge_usable-ok.ensures
 

@@ -9,6 +9,3 @@ pub returns-then-none_single : goal.returns-then-none_single
 returns-then-none_single c =
     let s = c.args.sheet.now in
     c.if-none_single.true ∙ sym (wide_usable c.requires.0 (ap (λ (m : ℕ). below m (λ u. ltb 1 (byte s u))) (sym c.requires.0.labels.degrees.nodes) ∙ sym c.none_single.ensures ∙ c.if-none_single.true))
-
-pub none_single-requires : goal.none_single-requires
-none_single-requires c = c.requires.0.labels.degrees.room

@@ -4,29 +4,17 @@ use Rattle.integers.proofs.Checks.{folded_none, folded_more, folded_all}
 use Rattle.instance.proofs.Turns.{labels_after, labels_room, label_by_lem, labels_done}
 use Rattle.instance.proofs.sections.labels_ok.Goals as goal
 
-pub first_places-firsts-requires : goal.first_places-firsts-requires
-first_places-firsts-requires c = record { degrees_asked = c.requires.degrees; sheet_value = c.requires.small }
-
 pub loop-i-init : goal.loop-i-init
 loop-i-init c = folded_none _ _
 
-pub overflow_add-n : goal.overflow_add-n
-overflow_add-n c = omega (arith, labels_room c.requires)
-
 pub bounds-sheet-n : goal.bounds-sheet-n
 bounds-sheet-n c = omega (arith, labels_room c.requires)
-
-pub overflow_add-n-in-loop-i : goal.overflow_add-n-in-loop-i
-overflow_add-n-in-loop-i c = omega (arith, labels_room c.requires)
 
 pub overflow_sub-n : goal.overflow_sub-n
 overflow_sub-n c = omega (arith, labels_after c.requires c.loop-i-test.true)
 
 pub bounds-sheet-n-in-loop-i : goal.bounds-sheet-n-in-loop-i
 bounds-sheet-n-in-loop-i c = omega (arith, labels_room c.requires)
-
-pub bounds-firsts-i : goal.bounds-firsts-i
-bounds-firsts-i c = omega (arith, c.requires.few)
 
 pub loop-i-preserved : goal.loop-i-preserved
 loop-i-preserved c =

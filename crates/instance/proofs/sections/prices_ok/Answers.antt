@@ -11,6 +11,3 @@ pub loop-i-preserved : goal.loop-i-preserved
 loop-i-preserved c =
     folded_more c.loop-i.invariant c.loop-i-test.true
     (c.price_ok-ok.ensures ∙ ap (λ (w : ℕ). within 1_000_000 (to_z w32 w)) c.word.ensures)
-
-pub returns : goal.returns
-returns c = folded_all c.loop-i.invariant c.loop-i-test.false

@@ -46,18 +46,6 @@ returns-then-u-v c =
     let p = (goal.at.returns-then-u-v c).After-from-v in ends_bad (start p).requires (bytes p) (head p).loop-e.e c.loop-e-test.true
     (end_falls (start p).requires (bytes p) (head p).loop-e.invariant (u p) (v p) (eu p) (ev p) c.if-v-u.false c.if-n-v.false c.if-u-v.true)
 
--- the table of an edge has at most 256 cells
-size : (c : After-from-in-loop-e) → c.from.result * c.from-in-loop-e.result ≤ 256
-size c =
-    let p = (goal.at.After-from-in-loop-e c).After-from-v in rw (c.from.ensures, c.from-in-loop-e.ensures)
-    (size_small (start p).requires (bytes p) (head p).loop-e.invariant (u p) (v p) (eu p) (ev p) c.if-v-u.false c.if-n-v.false)
-
-pub overflow_mul-total : goal.overflow_mul-total
-overflow_mul-total c = omega (arith, size c)
-
-pub overflow_add-total : goal.overflow_add-total
-overflow_add-total c = omega (arith, size c, (head (goal.at.overflow_add-total c).After-from-v).loop-e.invariant.small)
-
 pub loop-e-preserved : goal.loop-e-preserved
 loop-e-preserved c =
     let p = (goal.at.loop-e-preserved c).After-from-v in rw (c.from.ensures, c.from-in-loop-e.ensures)

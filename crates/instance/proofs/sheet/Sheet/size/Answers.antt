@@ -13,9 +13,6 @@ size c =
     let d = (instance_of c.args.self.now.bytes.now).degree in
     ap₂ ◌*◌ (c.degree.ensures.0 ∙ ap d c.low.ensures.0) (c.degree-2.ensures.0 ∙ ap d c.high.ensures.0)
 
-pub overflow_mul-result : goal.overflow_mul-result
-overflow_mul-result c = let x = c.args.self.now in omega (arith, size c, table_few (proper x) (edge_there x c.requires))
-
 pub returns : goal.returns
 returns c =
     let x = c.args.self.now in
