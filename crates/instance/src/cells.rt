@@ -1,5 +1,5 @@
 // Whether each edge has a usable cell. Document 02, wish 2.
-// Kept: each takes the bytes, counts and starts, and asks for what passed before it, as a stage of reading: there is no `Sheet` yet.
+// Kept: each takes the bytes, counts and starts, and asks for what passed before it, as a stage of reading; a struct of these would be made once, for the two calls here.
 ghost use Rattle.std.specs.Prelude.{◌≡◌, ◌<◌, ◌≤◌, not, length, nat_lt};
 ghost use Rattle.integers.specs.Checks.{below};
 ghost use Rattle.instance.specs.Bytes.{byte};

@@ -33,6 +33,8 @@ pub struct Sheet<'a> {
     ghost tabled: { tables ≡ tables_of bytes.now },
 }
 
+// Kept: a method asks that the node, edge or place is there, as an index into a slice does; a type for each would be made wherever a number is read.
+// Kept, `low` and `high`: two of them, since no caller has an end as a value.
 impl<'a> Sheet<'a> {
     // How many positions node `u` has.
     pub fn degree(&self, u: usize) -> usize
