@@ -13,6 +13,7 @@ use messages::{Answer, Report};
 // The least length of a buffer that is written to. No text is as long.
 const ROOM: usize = 256;
 
+// Kept: any number, as `refusal_text` takes it; a `Refusal` would ask more of callers.
 fn refused_line(text: &mut Text, number: u8)
     requires { Room text.old 32 }
     ensures { Wrote text.old (refused_line number) text.new }
@@ -117,6 +118,7 @@ pub fn compose(answer: Answer, report: Result<Report, Refusal>, out: &mut [u8]) 
 
 // Puts the line of a refusal, by its number, at the start of out, and answers its length; in a buffer of fewer than 256
 // bytes nothing, and 0.
+// Kept: any number, as before; a `Refusal` would ask more of callers. The test of room is as in `compose`: with the line as a closure its contract would be handed on for these two calls.
 pub fn refusal_text(number: u8, out: &mut [u8]) -> usize
     ensures { outputs out.new result ≡ output_of (refused_line number) out.old }
 {

@@ -7,7 +7,7 @@ use std::marker::Model;
 // An index: of each key below 64 the things that have it, rising, at most 64.
 #[derive(Drop)]
 pub struct Index {
-    // Kept: the array itself, this being the one place that has it.
+    // Kept: for each key how many things it has, and then those, in one array: `index_of` promises just these numbers, and one array is cleared at once.
     entries: [u16; 4160],
 }
 

@@ -32,6 +32,7 @@ fn direction_of(number: u8) -> Option<Direction>
 }
 
 // The two ends of an edge, by where they stand in its bytes.
+// Kept, beside `End` of `messages`: that one is about rows and columns, and neither crate shows its own.
 #[derive(Clone, Copy)]
 pub(crate) enum End {
     Lower = 0,

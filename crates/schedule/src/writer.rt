@@ -1,6 +1,7 @@
 // Writing records one after another.
 
 // The kinds of records, by their numbers.
+// Kept, beside `Kind` of `messages`: that one says what a record does, and has no numbers.
 #[derive(Clone, Copy)]
 pub(crate) enum Kind {
     ToEdge = 1,
@@ -11,7 +12,7 @@ pub(crate) enum Kind {
 }
 
 // A buffer, of which the bytes ahead of `at` are written.
-// Kept: the room that is asked for is each piece's own number of records, and so no fact of the type.
+// Kept: the room that is asked for is the piece's own number of records, and so no fact of the type.
 #[derive(Drop)]
 pub(crate) struct Writer<'a> {
     pub(crate) out: &'a mut [u8],

@@ -67,6 +67,7 @@ pub fn print_answer<R: Print>(
 }
 
 // Prints the line of a refusal, by its number.
+// Kept: any number, as `console::refusal_text` takes it.
 pub fn print_refusal<W: Write>(to: &mut W, number: u8) -> io::Result<()> {
     write_text(to, |text| console::refusal_text(number, text))
 }
