@@ -3,7 +3,6 @@ ghost use Rattle.std.specs.Prelude.{◌≡◌, ◌+◌, ◌*◌, ◌<◌, ◌≤
 ghost use Rattle.integers.specs.Places.{range};
 ghost use Rattle.instance.specs.Refusal.{refused_in};
 ghost use Rattle.instance.specs.Sheet.{instance_of};
-ghost use Rattle.index.specs.Index.{Indexed};
 ghost use Rattle.schedule.specs.Sweep.{label_at, each, falling, sweep, sweep_length};
 ghost use Rattle.schedule.specs.Written.{written, sweep_of, sweep_room};
 ghost use Rattle.schedule.specs.Writing.{Wrote, Room, edges_by, direction_of, direction_number, end_place, forward_of, backward_by};
@@ -81,19 +80,18 @@ fn backward_nodes(n: usize, lower: &Index, higher: &Index, w: &mut Writer)
     }
 }
 
-// A whole sweep. `lower` has the edges by their higher ends.
-// Kept: `lower` is lent. Made here, beside the other index, it needs no `requires`, but the sweeps of 256 edges then take a tenth longer.
-fn whole(sheet: &Sheet, direction: Direction, lower: &Index, w: &mut Writer)
-    requires indexed { Indexed (instance_of sheet.now.bytes.now).high (instance_of sheet.now.bytes.now).edge_count lower.now }
-    requires room { Room w.old (length (sweep (instance_of sheet.now.bytes.now) (direction_number direction))) }
+// A whole sweep.
+fn whole(sheet: &Sheet, direction: Direction, w: &mut Writer)
+    requires { Room w.old (length (sweep (instance_of sheet.now.bytes.now) (direction_number direction))) }
     ensures { Wrote w.old (sweep (instance_of sheet.now.bytes.now) (direction_number direction)) w.new }
 {
+    let lower = edges_by(sheet, End::Higher);
     let higher = edges_by(sheet, End::Lower);
     match direction {
-        Direction::Forward => forward(sheet, lower, &higher, w),
+        Direction::Forward => forward(sheet, &lower, &higher, w),
         Direction::Backward => {
             backward_labels(sheet, w);
-            backward_nodes(sheet.nodes, lower, &higher, w);
+            backward_nodes(sheet.nodes, &lower, &higher, w);
         }
     }
     w.put(Kind::Round, 0, 0, 0);
@@ -137,8 +135,7 @@ pub fn write_sweep(sheet: &[u8], direction: u8, out: &mut [u8]) -> Result<(), Re
     if out.len() != length_of(&sheet) {
         return Err(Refusal::BufferLength);
     }
-    let lower = edges_by(&sheet, End::Higher);
     let mut w = Writer { out, at: 0 };
-    whole(&sheet, direction, &lower, &mut w);
+    whole(&sheet, direction, &mut w);
     Ok(())
 }

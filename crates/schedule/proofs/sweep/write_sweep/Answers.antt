@@ -13,7 +13,6 @@ use Rattle.schedule.specs.Writing.{direction_number}
 use Rattle.schedule.proofs.Lengths.{sweep-length}
 use Rattle.schedule.proofs.Written.{direction_known, direction_unknown, unread, unknown, unfit, swept}
 use Rattle.schedule.proofs.WritingLaws.{length-bytes, wrote_all}
-use Rattle.schedule.proofs.IndexedSheet.{lower_indexed}
 use Rattle.schedule.proofs.sweep.write_sweep.Goals as goal
 use Rattle.schedule.proofs.sweep.write_sweep.Goals.{In_ok-sheet, In-Some}
 
@@ -59,12 +58,9 @@ returns-then-out-length_of c =
     unfit (s p) c.args.direction c.args.out.now (x p).readable (named k).0 (λ z. c.if-out-length_of.true (z ∙ sym c.length_of.ensures))
     ∙ over p c.args.direction c.args.out.now
 
-pub whole-requires-clause-indexed : goal.whole-requires-clause-indexed
-whole-requires-clause-indexed c = lower_indexed c.in_ok-sheet.sheet c.edges_by-lower.ensures
-
-pub whole-requires-clause-room : goal.whole-requires-clause-room
-whole-requires-clause-room c =
-    let k = (goal.at.whole-requires-clause-room c).In-Some in let p = read k in
+pub whole-requires : goal.whole-requires
+whole-requires c =
+    let k = (goal.at.whole-requires c).In-Some in let p = read k in
     let d = direction_number c.in-Some.direction in
     record { fits = omega (arith, c.if-out-length_of.false, c.length_of.ensures, long p d, length-bytes (sweep (instance_of (s p)) d)) }
 
