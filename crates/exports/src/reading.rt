@@ -59,6 +59,7 @@ pub extern "C" fn cirbaldu_read(sheet: &[u8], answer: &mut [u64]) -> u8
 }
 
 // Where the prices of an edge begin in the sheet, and how many bytes they take; or why the edge is not shown.
+// Kept: it computes what `Sheet::prices_of` does, as a part of a slice does not tell where it begins.
 fn edge_span(sheet: &[u8], edge: usize) -> Result<[usize; 2], Refusal>
     ensures refusal { refused_in result ≡ edge_refusal_of sheet.now edge }
     ensures span { IfOk result (λ p. p ≡ span_of sheet.now edge) }

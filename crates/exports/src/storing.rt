@@ -6,7 +6,7 @@ ghost use Rattle.exports.specs.Stored.{unlent};
 
 use instance::Refusal;
 
-// not turned back
+// No refusal, for C.
 pub(crate) const NONE: u8 = 0;
 
 // The number of the refusal, 0 where there is none.

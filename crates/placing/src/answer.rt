@@ -22,7 +22,7 @@ fn labels_below(label: u8) -> u64
     }
 }
 
-// How many labels of a word are below one: a count, and no kind.
+// How many labels of a word are below one.
 fn rank_of(word: u64, label: u8) -> u8
     requires { rank word label < 256 }
     ensures { result ≡ rank word label }

@@ -8,7 +8,7 @@ use crate::seats::Seats;
 use crate::words::lowest;
 
 // The steps of a search: the label from which each went, and the word of those that it found.
-// Kept: two arrays and no array of structs, as the laws of a trail are of a table of labels and one of words.
+// Kept: two arrays and no array of structs: a law of a trail speaks of both tables at every step, and of structs it would name a field each time.
 #[derive(Drop)]
 pub(crate) struct Steps {
     pub by: [u8; 64],

@@ -8,8 +8,9 @@ use crate::tables::Nodes;
 use crate::words::{bit_of, with_label};
 
 // The label that each node takes, 255 for none; the node that holds each label, and the word of that node's labels; and the labels that are free.
-// Kept: 255 and no Option, since it is the sheet's own label that any number of nodes may take, and what is left to a node that takes no other.
-// Kept: each method says that `nodes` is the same, since a ghost field speaks of one value and not of two.
+// Kept: 255 and no Option: a node that has 255 and takes no other label is placed thereby, and an `Option` would have to be turned into 255 in the end.
+// Kept: methods that callers go on from say that `nodes` is the same, since a ghost field speaks of one value and not of two.
+// Kept: two arrays by label and none of structs, as a search reads the words alone, one after the other.
 #[derive(Drop)]
 pub(crate) struct Seats<'a> {
     pub nodes: &'a Nodes,

@@ -6,10 +6,10 @@ ghost use Rattle.placing.specs.Words.{entry, Laid};
 ghost use Rattle.placing.specs.Labels.{Labels, Worded};
 
 use crate::words::bit_of;
-use instance::Sheet;
+use instance::{Sheet, exclusive};
 
 // The nodes below `count`: the word of each one's labels below 64, and whether it has 255.
-// Kept: two arrays and no array of structs, since the laws are of a table of words (`Words`) and one of flags.
+// Kept: two arrays and no array of structs: nearly every law is of the words alone, and of structs it would name a field each time.
 #[derive(Drop)]
 pub(crate) struct Nodes {
     pub count: usize,
@@ -43,8 +43,8 @@ fn row_of(labels: &[u8]) -> Row
     requires { Labels (entry labels.now) (length labels.now) }
     ensures { Worded (entry labels.now) (length labels.now) result.word result.own }
 {
-    // Kept: 255 is the sheet's own label, and no mark for none.
-    let own = labels[labels.len() - 1] == 255;
+    let last = labels[labels.len() - 1];
+    let own = !exclusive(usize::from(last));
     let word = word_of(&labels[..labels.len() - usize::from(own)]);
     Row { word, own }
 }

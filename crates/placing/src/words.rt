@@ -25,7 +25,7 @@ pub(crate) fn lowest(word: u64) -> u8
     requires { word ≡ 0 → ⊥ }
     ensures { result ≡ count_trailing_zeros 64 word }
 {
-    // Kept: at most 64; `try_from` would add a case that cannot happen.
+    // Kept: below 64, as the word is not 0; `try_from` would add a case that cannot happen.
     u64::trailing_zeros(word) as u8
 }
 

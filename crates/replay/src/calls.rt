@@ -1,6 +1,6 @@
 // The calls. For each op a function reads its parameters and what the file has for answers, makes the call, and says
-// whether the answers are the file's. It answers none where the call is skipped: where it has buffers and those of the
-// case are too long for this program, and as each function says.
+// whether the answers are the file's. It answers none where the call is skipped: where the buffers of the case are too
+// long for this program, and where the function says so.
 //
 // The hash of the buffers is compared after the calls that have them, and after each edit. A show or a read has none to
 // change, and a sweep or a placing its own: there it is not compared.

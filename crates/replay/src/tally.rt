@@ -109,7 +109,7 @@ impl Tally {
 impl fmt::Display for Tally {
     fn fmt<W: fmt::Write>(&self, f: &mut fmt::Formatter<W>) -> fmt::Result {
         for op in Op::CALLS {
-            // Kept: `as`, as in `of`, which is lent the tally to be changed.
+            // Kept: `as` again, since `of` wants a tally that may be changed.
             let counts = self.counts[op as usize];
             writeln!(f, "{op} {counts}")?;
         }

@@ -1,4 +1,5 @@
 // Records between a node and its edges: kinds 1 and 2. The edges stand in an index by the end that the node is at.
+// Kept: each asks that its node is below 64, as `Index::row` does; a type for it would be made at each turn of the sweeps.
 ghost use Rattle.std.specs.Prelude.{◌≡◌, ◌++◌, ◌≤◌, ◌<◌, ◌+◌};
 ghost use Rattle.index.specs.Index.{many};
 ghost use Rattle.schedule.specs.Writing.{Wrote, Room, received, sent, passed};
@@ -18,7 +19,8 @@ fn from_edges(edges: &Index, u: usize, w: &mut Writer)
     }
 }
 
-// Kind 1 to each of them, with shares that fall from their number and `more` on.
+// Kind 1 to each of them, with shares that fall from the number of edges plus `more`.
+// Kept: `more`, 0 or 1, is a number that is added.
 fn to_edges(edges: &Index, u: usize, more: usize, w: &mut Writer)
     requires u_bound { (u < 64) × (more ≤ 1) }
     requires room { Room w.old (many edges.now u) }
