@@ -6,7 +6,7 @@ ghost use Rattle.placing.specs.Words.{entry, Laid};
 ghost use Rattle.placing.specs.Labels.{Labels, Worded};
 
 use crate::words::bit_of;
-use instance::{Sheet, exclusive};
+use instance::Sheet;
 
 // The nodes below `count`: the word of each one's labels below 64, and whether it has 255.
 // Kept: two arrays and no array of structs: nearly every law is of the words alone, and of structs it would name a field each time.
@@ -43,8 +43,8 @@ fn row_of(labels: &[u8]) -> Row
     requires { Labels (entry labels.now) (length labels.now) }
     ensures { Worded (entry labels.now) (length labels.now) result.word result.own }
 {
-    let last = labels[labels.len() - 1];
-    let own = !exclusive(usize::from(last));
+    // Kept: 255 by itself; `exclusive` takes a label as an index, and would be the same comparison of a byte made wider.
+    let own = labels[labels.len() - 1] == 255;
     let word = word_of(&labels[..labels.len() - usize::from(own)]);
     Row { word, own }
 }
