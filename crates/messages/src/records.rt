@@ -114,6 +114,7 @@ fn legal_edge(sheet: &Sheet, step: Record) -> bool
 }
 
 // Whether the share, the node and the position exist, and its label is not 255.
+#[tactic(auto, using(crate::proofs::RecordLaws::tests_off, crate::proofs::RecordLaws::tests_on, crate::proofs::RecordLaws::tests_past), unfolding(rules::specs::Run::legal_position))]
 fn legal_position(sheet: &Sheet, step: Record) -> bool
     ensures { result ≡ legal_position (instance_of sheet.now.bytes.now) step.node step.index step.share }
 {

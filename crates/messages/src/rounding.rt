@@ -25,6 +25,7 @@ fn add_cells(keys: &mut [i64], row: &[i64])
 }
 
 // The better of the best so far, if there is one, and the position `k`, which counts if it is free.
+#[tactic(auto, using(crate::proofs::ChoiceLaws::better_first, crate::proofs::ChoiceLaws::better_less, crate::proofs::ChoiceLaws::better_stays, crate::proofs::ChoiceLaws::better_taken))]
 fn better_of(free: bool, keys: &[i64; 16], best: Option<usize>, k: usize) -> Option<usize>
     requires { IfSome best (λ b. b < 16) × (k < 16) }
     ensures { result ≡ better free (λ (i : ℕ). slice_index_or keys.now i (pos 0)) best k }

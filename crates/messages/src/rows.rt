@@ -29,6 +29,7 @@ pub(crate) fn minus(a: i64, b: i64) -> i64
 }
 
 // The less of a cost of a row and the best so far.
+#[tactic(auto, using(crate::proofs::RowLaws::less_back, integers::proofs::Bits::answer))]
 pub(crate) fn less_at(row: &[i64], i: usize, best: i64) -> i64
     requires { i < length row.now }
     ensures { result ≡ min_ℤ (slice_index_or row.now i (pos 0)) best }
@@ -37,6 +38,7 @@ pub(crate) fn less_at(row: &[i64], i: usize, best: i64) -> i64
 }
 
 // The least of `start` and the costs of a row, one after the other.
+#[tactic(auto, using(crate::proofs::RowLaws::less_back, integers::proofs::Bits::answer, integers::proofs::Least::least_done, integers::proofs::Least::least_step))]
 fn least_in_turn(row: &[i64], start: i64) -> i64
     ensures { result ≡ least_from start row.now }
 {
@@ -72,6 +74,7 @@ pub(crate) fn least(row: &[i64], start: i64) -> i64
 pub(crate) const UNBOUNDED: i64 = 0x7FFF_FFFF_FFFF_FFFF;
 
 // The least of `start` and the costs of a row but for the one at `skip`.
+#[tactic(auto, using(crate::proofs::RowLaws::least_parts, integers::proofs::Bits::answer, integers::proofs::Least::least_append, integers::proofs::Rows::tail_part))]
 pub(crate) fn least_but(row: &[i64], skip: usize, start: i64) -> i64
     requires { skip < length row.now }
     ensures { result ≡ least_from start (without row.now skip) }
@@ -81,6 +84,7 @@ pub(crate) fn least_but(row: &[i64], skip: usize, start: i64) -> i64
 }
 
 // The least cost of a row. That the first counts twice changes nothing.
+#[tactic(auto, using(crate::proofs::LeastLaws::least_whole, integers::proofs::Bits::answer))]
 pub(crate) fn least_of(row: &[i64]) -> i64
     requires { 0 < length row.now }
     ensures { result ≡ least_of row.now }
@@ -98,6 +102,7 @@ pub(crate) fn rival(row: &[i64], k: usize) -> i64
 }
 
 // A share of `n`, to the nearest whole number. An exact half goes to the even one: it counts as more where the quotient is odd.
+#[tactic(auto, using(integers::proofs::Share::nearest_by))]
 fn nearest_to(n: u64, share: Share) -> u64
     requires { n ≤ 2 ^ 41 }
     ensures { result ≡ nearest n share.parts }
@@ -128,6 +133,7 @@ pub(crate) fn share_of(cost: i64, low: i64, part: Share) -> i64
 }
 
 // Whether a cost lies within the limit. The smallest i64 is no special case.
+#[tactic(auto, unfolding(integers::specs::Checks::within))]
 pub(crate) fn in_range(cost: i64, limit: Limit) -> bool
     ensures { result ≡ within limit.most cost }
 {
@@ -138,6 +144,7 @@ pub(crate) fn in_range(cost: i64, limit: Limit) -> bool
 pub(crate) const OUT: u64 = 0x8000_0000_0000_0000;
 
 // At least `OUT` if a cost passes the limit. Joined by `|`, many costs take one test.
+#[tactic(auto, using(crate::proofs::ExcessLaws::apart_limit))]
 pub(crate) fn excess(cost: i64, limit: Limit) -> u64
     ensures { nat_lt result (2 ^ 63) ≡ within limit.most cost }
 {

@@ -31,10 +31,6 @@ pub invariant_of-kept : goal.invariant_of-kept
 invariant_of-kept c =
     let q = (goal.at.invariant_of-kept c).Start in record { labelling = kept_labelling (instance_of (sheet q)) (well q).kept (well q).incumbent (sym c.none_kept.ensures ∙ c.if-none_kept.false) }
 
-pub answer-requires : goal.answer-requires
-answer-requires c =
-    (rw (same c.lower_bound-bound.result c.lower_bound-bound.type_inv) c.lower_bound-bound.ensures.1, rw (same c.price.result c.price.type_inv) c.price.ensures.1)
-
 pub returns : goal.returns
 returns c =
     let q = (goal.at.returns c).Start in c.answer.ensures ∙ ap₂ against (same c.lower_bound-bound.result c.lower_bound-bound.type_inv ∙ c.lower_bound-bound.ensures.0) (same c.price.result c.price.type_inv ∙ c.price.ensures.0)

@@ -6,10 +6,6 @@ use Rattle.messages.proofs.KeyLaws.{added_none, added_at, added_more, length-add
 use Rattle.messages.proofs.rounding.add_cells.Goals as goal
 use Rattle.messages.proofs.rounding.add_cells.Goals.{After-keys-in-loop-i-1, At-loop-i}
 
--- the keys are as many as they were
-long : (c : At-loop-i) → length c.loop-i.keys ≡ length c.args.keys.now
-long c = ap length c.loop-i.invariant.1 ∙ length-added c.args.keys.now (take c.loop-i.i c.args.row.now)
-
 -- where both cells are read: the key, which is as it was at entry, and the row's cell; their sum fits
 module _ (p : After-keys-in-loop-i-1) where
   abbrev head : At-loop-i
@@ -36,21 +32,9 @@ module _ (p : After-keys-in-loop-i-1) where
 pub loop-i-init : goal.loop-i-init
 loop-i-init c = (omega arith, sym (added_none c.args.keys.now))
 
-pub offset_bounds-keys-i : goal.offset_bounds-keys-i
-offset_bounds-keys-i c = omega (arith, long (goal.at.offset_bounds-keys-i c).At-loop-i)
-
-pub slice_copy_out-keys : goal.slice_copy_out-keys
-slice_copy_out-keys c = omega (arith, long (goal.at.slice_copy_out-keys c).At-loop-i)
-
 pub overflow_add-keys : goal.overflow_add-keys
 overflow_add-keys c =
     rw (to_z-of_z {w = w64} {z = get_or (head c).loop-i.keys (i c) (pos 0)} (search rules), to_z-of_z {w = w64} {z = get_or (row c) (i c) (pos 0)} (search rules)) (fits c)
-
-pub offset_bounds-keys-i-in-loop-i : goal.offset_bounds-keys-i-in-loop-i
-offset_bounds-keys-i-in-loop-i c = omega (arith, long (goal.at.offset_bounds-keys-i-in-loop-i c).At-loop-i)
-
-pub bounds-keys-i : goal.bounds-keys-i
-bounds-keys-i c = omega (arith, long (goal.at.bounds-keys-i c).At-loop-i)
 
 pub loop-i-preserved : goal.loop-i-preserved
 loop-i-preserved c =
@@ -59,11 +43,3 @@ loop-i-preserved c =
       ap₂ (λ (l : List ℤ) (x : ℤ). set l (i c) (x +ℤ get_or (row c) (i c) (pos 0))) (head c).loop-i.invariant.1 (key c)
           ∙ added_more (keys c) (row c) (i c) (pos 0) c.loop-i-test.true,
     )
-
-pub shape_of-keys : goal.shape_of-keys
-shape_of-keys c = long (goal.at.shape_of-keys c).At-loop-i
-
-pub returns : goal.returns
-returns c =
-    let r = c.args.row.now in
-    c.loop-i.invariant.1 ∙ ap (added c.args.keys.now) (take_all c.loop-i.i r c.loop-i-test.false)

@@ -9,9 +9,3 @@ loop-cost-preserved c =
     let x = get_or c.args.costs.now c.loop-cost.cost-index (pos 0) in
     halving_more c.raised-all.result c.loop-cost.invariant (omega arith)
     (λ h. subst (λ (z : ℤ). nat_abs z ≤ c.half-half.result.most) (to_z-of_z {w = w64} {z = x} (search rules)) (c.raised-all.ensures h))
-
-pub loop-cost-init : goal.loop-cost-init
-loop-cost-init c = halving_none _ _
-
-pub returns : goal.returns
-returns c t = subst (λ (k : ℕ). Within k c.args.costs.now) c.half-half.ensures (halving_all c.loop-cost.invariant (omega arith) t)

@@ -7,9 +7,6 @@ use Rattle.messages.proofs.LeastLaws.{least_whole, first_but_first, first_but_la
 use Rattle.messages.proofs.rows.rival.Goals as goal
 use Rattle.messages.proofs.rows.rival.Goals.{Joined-k-eq0, then-k-eq0, else-k-eq0}
 
-few : (j : Joined-k-eq0) → j.if-k-eq0.other ≤ 1
-few j = elim j.if-k-eq0.branch [ then-k-eq0 w ↦ omega arith | else-k-eq0 w ↦ omega arith ]
-
 pub returns : goal.returns
 returns c =
     let l = c.args.row.now in
@@ -20,9 +17,3 @@ returns c =
     (to_z-of_z {w = w64} {z = at c.if-k-eq0.other} (search rules)
     ∙ elim c.if-k-eq0.branch [ then-k-eq0 w ↦ ap at w.other-is ∙ first_but_first l k (pos 0) w.if-k-eq0.true | else-k-eq0 w ↦ ap at w.other-is ∙ first_but_later l k (pos 0) w.if-k-eq0.false ])
     ∙ least_whole (without l k) (pos 0) (omega (arith, length_without l k c.requires.0))
-
-pub offset_bounds-row-other : goal.offset_bounds-row-other
-offset_bounds-row-other c = omega (arith, few (goal.at.offset_bounds-row-other c).Joined-k-eq0)
-
-pub bounds-row-other : goal.bounds-row-other
-bounds-row-other c = omega (arith, few (goal.at.bounds-row-other c).Joined-k-eq0)

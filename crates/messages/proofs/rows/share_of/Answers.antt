@@ -22,9 +22,6 @@ module _ (q : Start) where
   is : to_z w64 (of_z w64 (to_z w64 (of_z w64 x) -ℤ to_z w64 (of_z w64 y))) ≡ d
   is = difference_is x y q.requires.0 q.requires.1
 
-pub overflow_sub-apart : goal.overflow_sub-apart
-overflow_sub-apart c = difference_fits c.args.cost c.args.low c.requires.0 c.requires.1
-
 pub returns-then-part-eq1 : goal.returns-then-part-eq1
 returns-then-part-eq1 c =
     let q = (goal.at.returns-then-part-eq1 c).Start in is q ∙ sym (ap (share (d q)) c.if-part-eq1.true ∙ share_one (d q))

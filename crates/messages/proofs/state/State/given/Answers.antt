@@ -22,12 +22,6 @@ module _ (q : Start) where
   small : nat_abs amount ≤ 2 ^ 41
   small = let a = q.args in label_fits (instance_in a.self.now) a.self.now.labels.now (labels_fit a.self.now).range a.place a.step.share
 
-pub invariant_of-share : goal.invariant_of-share
-invariant_of-share c = record { some = c.requires.0.some }
-
-pub node_amount-requires : goal.node_amount-requires
-node_amount-requires c = let asked = c.requires.0 in (omega (arith, asked.node, nodes_is c.args.self.now.run.now.sheet), asked.position)
-
 pub label_amount-requires : goal.label_amount-requires
 label_amount-requires c =
     let (asked, at) = c.requires in let s = c.args.self.now in

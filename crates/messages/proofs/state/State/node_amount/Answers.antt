@@ -52,9 +52,6 @@ offset_bounds-sheet-u c = let q = (goal.at.offset_bounds-sheet-u c).Start in ome
 pub bounds-sheet-u : goal.bounds-sheet-u
 bounds-sheet-u c = let q = (goal.at.bounds-sheet-u c).Start in omega (arith, node q, nodes_few (x q))
 
-pub degree-requires : goal.degree-requires
-degree-requires c = node (goal.at.degree-requires c).Start
-
 pub overflow_add-to : goal.overflow_add-to
 overflow_add-to c = omega (arith, row c)
 
