@@ -38,12 +38,12 @@ kind_as (runs.message m) = Some (message_as m)
 kind_as runs.rounding = Some Rounding
 kind_as runs.unknown = None
 
--- the first five bytes as a record, if there is such a kind
-abbrev pub head_by : Option Kind → List ℕ → Option Record
+-- five bytes as a kind and what a record of it names, if there is such a kind
+abbrev pub head_by : Option Kind → List ℕ → Option (Kind × Record)
 head_by None l = None
-head_by (Some kind) l = Some (record { kind = kind; node = slice_index l 1; index = slice_index l 2 + 256 * slice_index l 3; share = slice_index l 4 })
+head_by (Some kind) l = Some (kind, record { node = slice_index l 1; index = slice_index l 2 + 256 * slice_index l 3; share = slice_index l 4 })
 
-abbrev pub head_of : List ℕ → Option Record
+abbrev pub head_of : List ℕ → Option (Kind × Record)
 head_of l = head_by (kind_as (kind_of (slice_index l 0))) l
 
 -- kind 3, or turned round kind 4

@@ -93,15 +93,24 @@ impl State<'_> {
         )
     }
 
+    // Where the place of a record stands in the costs.
+    pub(crate) fn place_of(&self, step: Record) -> usize
+        requires { PlaceAsked (instance_in self.now) step.node step.index step.share }
+        ensures { result ≡ first (instance_in self.now) step.node + step.index }
+    {
+        let sheet = &self.run.sheet;
+        sheet.starts[step.node] + step.index
+    }
+
     // What goes from the node cost to the label cost at the record's place.
-    pub(crate) fn given(&self, flow: Flow, place: usize, step: Record) -> i64
-        requires { PlaceAsked (instance_in self.now) step.node step.index step.share × (place ≡ first (instance_in self.now) step.node + step.index) }
-        ensures { (result ≡ label_given (instance_in self.now) self.now.nodes.now self.now.labels.now (to_node flow) step.node place step.share) × (unsigned_abs result ≤ 2 ^ 41) }
+    pub(crate) fn given(&self, flow: Flow, step: Record) -> i64
+        requires { PlaceAsked (instance_in self.now) step.node step.index step.share }
+        ensures { (result ≡ label_given (instance_in self.now) self.now.nodes.now self.now.labels.now (to_node flow) step.node (first (instance_in self.now) step.node + step.index) step.share) × (unsigned_abs result ≤ 2 ^ 41) }
     {
         let share = Share { parts: step.share };
         match flow {
             Flow::FromNode => self.node_amount(step.node, step.index, share),
-            Flow::ToNode => minus(0, self.label_amount(place, share)),
+            Flow::ToNode => minus(0, self.label_amount(self.place_of(step), share)),
         }
     }
 }

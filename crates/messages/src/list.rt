@@ -21,11 +21,10 @@ impl State<'_> {
         ensures same { Same self.old self.new }
         ensures ran { ran_as (buffers_in self.new) result ≡ run_list (instance_in self.old) (limit_in self.old) (buffers_in self.old) records.now }
     {
-        let many = records.len() / 5;
+        let (all, _) = records.as_chunks::<5>();
         let mut stuck = 0;
-        for done in 0..many {
-            let at = 5 * done;
-            match self.one_record(&records[at..at + 5]) {
+        for (done, bytes) in all.iter().enumerate() {
+            match self.one_record(bytes) {
                 Ok(rounding) => stuck += rounding,
                 Err(refusal) => {
                     return Answer {
@@ -37,7 +36,7 @@ impl State<'_> {
             }
         }
         Answer {
-            done: many,
+            done: all.len(),
             stuck,
             refusal: None,
         }

@@ -45,10 +45,9 @@ impl Kind {
     }
 }
 
-// A record of a list: what it does, and what it names.
+// What a record names.
 #[derive(Clone, Copy, Debug, PartialEq, Eq)]
 pub(crate) struct Record {
-    pub kind: Kind,
     pub node: usize,
     pub index: usize,
     pub share: u8,
@@ -56,16 +55,16 @@ pub(crate) struct Record {
 
 impl Record {
     // The record in five bytes: kind, node, index in two bytes, share. None if there is no such kind.
-    pub(crate) fn of(bytes: &[u8]) -> Option<Record>
-        requires { 5 ≤ length bytes.now }
+    pub(crate) fn of(bytes: &[u8; 5]) -> Option<(Kind, Record)>
         ensures { result ≡ head_of bytes.now }
     {
-        Some(Record {
-            kind: Kind::of(bytes[0])?,
-            node: usize::from(bytes[1]),
-            index: usize::from(u16::from_le_bytes([bytes[2], bytes[3]])),
-            share: bytes[4],
-        })
+        let [number, node, low, high, share] = *bytes;
+        let named = Record {
+            node: usize::from(node),
+            index: usize::from(u16::from_le_bytes([low, high])),
+            share,
+        };
+        Some((Kind::of(number)?, named))
     }
 }
 
@@ -147,8 +146,8 @@ impl State<'_> {
     {
         let run = self.run;
         if legal_position(&run.sheet, step) {
-            let place = run.sheet.starts[step.node] + step.index;
-            let p = self.given(flow, place, step);
+            let place = self.place_of(step);
+            let p = self.given(flow, step);
             shift_label(self.nodes, self.labels, place, p, run.limit)
         } else {
             Err(Refusal::NoSuchRecord)

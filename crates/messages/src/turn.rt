@@ -1,5 +1,5 @@
 // One record of a run, by its kind.
-ghost use Rattle.std.specs.Prelude.{◌≡◌, ◌≤◌, length};
+ghost use Rattle.std.specs.Prelude.{◌≡◌};
 ghost use Rattle.instance.specs.Refusal.{refused_in};
 ghost use Rattle.messages.specs.Step.{settle, settled_by, stuck_in};
 ghost use Rattle.messages.specs.State.{Same, instance_in, limit_in, buffers_in};
@@ -11,15 +11,14 @@ use instance::Refusal;
 impl State<'_> {
     // A record in five bytes; a kind that does not exist is refused. How many roundings were stuck, 0 or 1.
     #[tactic(auto, using(crate::proofs::KindLaws::head_none, crate::proofs::KindLaws::kind_unknown, crate::proofs::TurnLaws::none_turn))]
-    pub(crate) fn one_record(&mut self, bytes: &[u8]) -> Result<usize, Refusal>
-        requires { 5 ≤ length bytes.now }
+    pub(crate) fn one_record(&mut self, bytes: &[u8; 5]) -> Result<usize, Refusal>
         ensures same { Same self.old self.new }
         ensures left { settle (buffers_in self.new) (stuck_in result) (refused_in result) ≡ settled_by (instance_in self.old) (limit_in self.old) (buffers_in self.old) bytes.now }
     {
-        let Some(step) = Record::of(bytes) else {
+        let Some((kind, step)) = Record::of(bytes) else {
             return Err(Refusal::NoSuchRecord);
         };
-        match step.kind {
+        match kind {
             Kind::Edge(flow) => self.edge_record(flow, step)?,
             Kind::Label(flow) => self.label_record(flow, step)?,
             Kind::Rounding => return self.round_record(step),

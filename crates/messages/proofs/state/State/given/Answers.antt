@@ -1,45 +1,52 @@
 -- `given` meets its contract: the node's amount, or the label's turned round.
-use Rattle.std.proofs.Common.{◌^◌, ◌≤◌, ℤ, pos, ◌-ℤ◌, nat_abs, sym, ap, ◌∙◌, subst, arith}
+use Rattle.std.proofs.Common.{◌≡◌, ℕ, ◌+◌, ◌^◌, ◌≤◌, ℤ, pos, ◌-ℤ◌, nat_abs, sym, ap, ◌∙◌, subst, arith}
 use Rattle.integers.proofs.Bits.{same}
-use Rattle.instance.proofs.Sheets.{nodes_is}
+use Rattle.instance.specs.Instance.{first}
 use Rattle.messages.specs.declared.records.Flow.{Flow}
-use Rattle.messages.specs.LabelMessage.{node_amount, label_amount, label_given}
+use Rattle.messages.specs.LabelMessage.{label_amount, label_given}
 use Rattle.messages.specs.Records.{to_node}
 use Rattle.messages.specs.State.{instance_in}
 use Rattle.messages.proofs.RowLaws.{from_zero, zero_fits, neg_fits}
 use Rattle.messages.proofs.LabelMessageLaws.{place_in, node_fits, label_fits}
 use Rattle.messages.proofs.StateLaws.{nodes_fit, labels_fit}
 use Rattle.messages.proofs.state.State.given.Goals as goal
-use Rattle.messages.proofs.state.State.given.Goals.{Start}
+use Rattle.messages.proofs.state.State.given.Goals.{After-label_amount, Start}
 
 module _ (q : Start) where
+  abbrev place : ℕ
+  place = first (instance_in q.args.self.now) q.args.step.node + q.args.step.index
+
   abbrev given : Flow → ℤ
-  given f = let a = q.args in label_given (instance_in a.self.now) a.self.now.nodes.now a.self.now.labels.now (to_node f) a.step.node a.place a.step.share
+  given f = let a = q.args in label_given (instance_in a.self.now) a.self.now.nodes.now a.self.now.labels.now (to_node f) a.step.node place a.step.share
 
   abbrev amount : ℤ
-  amount = let a = q.args in label_amount (instance_in a.self.now) a.self.now.labels.now a.place a.step.share
+  amount = let a = q.args in label_amount (instance_in a.self.now) a.self.now.labels.now place a.step.share
 
   small : nat_abs amount ≤ 2 ^ 41
-  small = let a = q.args in label_fits (instance_in a.self.now) a.self.now.labels.now (labels_fit a.self.now).range a.place a.step.share
+  small = let a = q.args in label_fits (instance_in a.self.now) a.self.now.labels.now (labels_fit a.self.now).range place a.step.share
+
+-- what the label gives, where the place was read
+read : (c : After-label_amount) → c.label_amount.result ≡ amount (goal.at.After-label_amount c).Start
+read c = c.label_amount.ensures ∙ ap (λ (i : ℕ). label_amount (instance_in c.args.self.now) c.args.self.now.labels.now i c.args.step.share) c.place_of.ensures
 
 pub label_amount-requires : goal.label_amount-requires
 label_amount-requires c =
-    let (asked, at) = c.requires in let s = c.args.self.now in
-    (omega (arith, at, place_in (instance_in s) asked.node asked.position s.labels.now (labels_fit s).size, (labels_fit s).size), rw at asked.exclusive)
+    let q = c.requires in let s = c.args.self.now in
+    rw c.place_of.ensures (omega (arith, place_in (instance_in s) q.node q.position s.labels.now (labels_fit s).size, (labels_fit s).size), q.exclusive)
 
 pub minus-requires : goal.minus-requires
 minus-requires c =
-    let q = (goal.at.minus-requires c).Start in rw (same c.label_amount.result c.label_amount.type_inv, c.label_amount.ensures) (zero_fits (amount q) (small q))
+    let q = (goal.at.minus-requires c).Start in rw (same c.label_amount.result c.label_amount.type_inv, read c) (zero_fits (amount q) (small q))
 
 pub returns-in-ToNode : goal.returns-in-ToNode
 returns-in-ToNode c =
     let q = (goal.at.returns-in-ToNode c).Start in let e =
-    same c.minus.result c.minus.type_inv ∙ c.minus.ensures ∙ ap (λ (z : ℤ). pos 0 -ℤ z) (same c.label_amount.result c.label_amount.type_inv ∙ c.label_amount.ensures) ∙ from_zero (amount q)
+    same c.minus.result c.minus.type_inv ∙ c.minus.ensures ∙ ap (λ (z : ℤ). pos 0 -ℤ z) (same c.label_amount.result c.label_amount.type_inv ∙ read (goal.at.returns-in-ToNode c).After-label_amount) ∙ from_zero (amount q)
     in (e ∙ ap (given q) (sym c.in-ToNode.is), subst (λ (z : ℤ). nat_abs z ≤ 2 ^ 41) (sym e) (neg_fits (amount q) (small q)))
 
 pub returns-in-FromNode : goal.returns-in-FromNode
 returns-in-FromNode c =
     let q = (goal.at.returns-in-FromNode c).Start in
     let a = q.args in
-    let e = same c.node_amount.result c.node_amount.type_inv ∙ c.node_amount.ensures ∙ (λ i. node_amount (instance_in a.self.now) a.self.now.nodes.now a.step.node (sym c.requires.1 i) a.step.share) in
-    (e ∙ ap (given q) (sym c.in-FromNode.is), subst (λ (z : ℤ). nat_abs z ≤ 2 ^ 41) (sym e) (node_fits (instance_in a.self.now) a.self.now.nodes.now (nodes_fit a.self.now).range a.step.node a.place a.step.share))
+    let e = same c.node_amount.result c.node_amount.type_inv ∙ c.node_amount.ensures in
+    (e ∙ ap (given q) (sym c.in-FromNode.is), subst (λ (z : ℤ). nat_abs z ≤ 2 ^ 41) (sym e) (node_fits (instance_in a.self.now) a.self.now.nodes.now (nodes_fit a.self.now).range a.step.node (place q) a.step.share))

@@ -1,11 +1,10 @@
 -- `label_record` meets its contract: a legal record moves one way or the other, another is refused.
-use Rattle.std.proofs.Common.{◌≡◌, ℕ, ◌+◌, ◌<◌, true, length, get_or, sym, ap, ◌∙◌, arith}
+use Rattle.std.proofs.Common.{◌≡◌, ℕ, ◌+◌, ◌<◌, true, length, sym, ap₂, ◌∙◌}
 use Rattle.integers.proofs.Bits.{same}
 use Rattle.instance.specs.declared.sheet.Sheet.{Sheet}
 use Rattle.instance.specs.Instance.{Instance, first}
 use Rattle.instance.specs.Refusal.{refused_in}
 use Rattle.instance.specs.Sheet.{instance_of}
-use Rattle.instance.proofs.Sheets.{nodes_is, nodes_few, start_is}
 use Rattle.rules.specs.Run.{message, legal_position}
 use Rattle.messages.specs.declared.records.Record.{Record}
 use Rattle.messages.specs.declared.state.State.{State}
@@ -36,7 +35,7 @@ module _ (p : Then-legal_position) where
   r = start.args.step
 
   abbrev place : ℕ
-  place = get_or x.starts r.node 0 + r.index
+  place = first I r.node + r.index
 
   legal : legal_position I r.node r.index r.share ≡ true
   legal = sym p.legal_position.ensures ∙ p.if-legal_position.true
@@ -44,20 +43,11 @@ module _ (p : Then-legal_position) where
   asked : PlaceAsked I r.node r.index r.share
   asked = place_asked I r.node r.index r.share legal
 
-  node : r.node < x.nodes
-  node = omega (arith, asked.node, nodes_is x)
-
-  small : r.node < 64
-  small = omega (arith, node, nodes_few x)
-
-  begins : place ≡ first I r.node + r.index
-  begins = ap (λ (a : ℕ). a + r.index) (start_is x node)
-
   in_nodes : place < length s.nodes.now
-  in_nodes = omega (arith, begins, place_in I asked.node asked.position s.nodes.now (nodes_fit s).size)
+  in_nodes = place_in I asked.node asked.position s.nodes.now (nodes_fit s).size
 
   in_labels : place < length s.labels.now
-  in_labels = omega (arith, begins, place_in I asked.node asked.position s.labels.now (labels_fit s).size)
+  in_labels = place_in I asked.node asked.position s.labels.now (labels_fit s).size
 
 -- what the move leaves
 moved : (m : After-shift_label) → (let a = m.args in label_move (refused_in m.shift_label.result) m.shift_label.new.nodes m.shift_label.new.labels
@@ -66,26 +56,19 @@ moved m =
     let p = (goal.at.After-shift_label m).Then-legal_position in let a = (start p).args in
     let n = a.self.now.nodes.now in let l = a.self.now.labels.now in
     m.shift_label.ensures
-    ∙ ap (label_moved (limit_in (s p)) n l (place p)) (same m.given-p.result m.given-p.type_inv ∙ m.given-p.ensures.0)
-    ∙ ap (λ (i : ℕ). label_moved (limit_in (s p)) n l i (label_given (I p) n l (to_node a.flow) (r p).node i (r p).share)) (begins p)
+    ∙ ap₂ (label_moved (limit_in (s p)) n l) m.place_of-place.ensures (same m.given-p.result m.given-p.type_inv ∙ m.given-p.ensures.0)
     ∙ label_taken_lem (I p) (limit_in (s p)) n l (to_node a.flow) (r p).node (r p).index (r p).share (legal p)
 
-pub offset_bounds-run-step : goal.offset_bounds-run-step
-offset_bounds-run-step c = omega (arith, small c)
-
-pub bounds-run-step : goal.bounds-run-step
-bounds-run-step c = small (goal.at.bounds-run-step c).Then-legal_position
-
-pub overflow_add-place : goal.overflow_add-place
-overflow_add-place c = let p = (goal.at.overflow_add-place c).Then-legal_position in omega (arith, in_nodes p)
+pub place_of-place-requires : goal.place_of-place-requires
+place_of-place-requires c = asked c
 
 pub given-p-requires : goal.given-p-requires
-given-p-requires c = let p = (goal.at.given-p-requires c).Then-legal_position in (asked p, begins p)
+given-p-requires c = asked (goal.at.given-p-requires c).Then-legal_position
 
 pub shift_label-requires : goal.shift_label-requires
 shift_label-requires c =
     let p = (goal.at.shift_label-requires c).Then-legal_position in
-    record { i_in_bounds = (in_nodes p, in_labels p); within = (nodes_fit (s p)).range; within_2 = (labels_fit (s p)).range; p_bound = rw (same c.given-p.result c.given-p.type_inv) c.given-p.ensures.1 }
+    record { i_in_bounds = rw c.place_of-place.ensures (in_nodes p, in_labels p); within = (nodes_fit (s p)).range; within_2 = (labels_fit (s p)).range; p_bound = rw (same c.given-p.result c.given-p.type_inv) c.given-p.ensures.1 }
 
 pub invariant_of-self : goal.invariant_of-self
 invariant_of-self c =

@@ -1,5 +1,5 @@
 -- `run_all` meets its contract: the run so far and the rest of it are the whole run.
-use Rattle.std.proofs.Common.{◌≡◌, ℕ, ◌+◌, ◌*◌, ◌-◌, ◌/◌, ◌<◌, ◌≤◌, List, Bor, length, take, drop, sym, refl, ap, ◌∙◌, arith}
+use Rattle.std.proofs.Common.{◌≡◌, ℕ, [], get_or, ◌+◌, ◌*◌, ◌/◌, ◌<◌, ◌≤◌, List, Bor, length, take, drop, sym, refl, ap, ◌∙◌, arith}
 use Rattle.instance.specs.Sheet.{instance_of}
 use Rattle.instance.proofs.Told.{numbered}
 use Rattle.rules.specs.Costs.{Buffers}
@@ -8,7 +8,7 @@ use Rattle.messages.specs.declared.running.Run.{Run}
 use Rattle.messages.specs.declared.state.State.{State}
 use Rattle.messages.specs.State.{instance_in, limit_in, buffers_in}
 use Rattle.messages.specs.Step.{settle, settled, settled_by}
-use Rattle.messages.proofs.RunLaws.{ran_of, record_of, going_start, going_end, going_refused, going_few, going_next, five_bytes}
+use Rattle.messages.proofs.RunLaws.{ran_of, record_of, chunk_at, going_start, going_end, going_refused, going_few, going_next, five_bytes}
 use Rattle.messages.proofs.StateLaws.{good, same_after}
 use Rattle.messages.proofs.state.State.run_all.Goals as goal
 use Rattle.messages.proofs.state.State.run_all.Goals.{After-one_record, At-loop-done, In-loop-done, Start}
@@ -36,18 +36,24 @@ module _ (p : After-one_record) where
   abbrev b : Buffers
   b = buffers_in head.loop-done.self
 
+  few : head.loop-done.done < length l / 5
+  few = omega (arith, turn.loop-done-test.true, head.as_chunks.ensures.front_len)
+
   more : at < length l
-  more = omega (arith, turn.loop-done-test.true)
+  more = omega (arith, few)
 
   room : at + 5 ≤ length l
-  room = omega (arith, turn.loop-done-test.true)
+  room = omega (arith, few)
+
+  -- the record at hand
+  bytes : get_or head.as_chunks.result.0.now head.loop-done.done [] ≡ take 5 (drop at l)
+  bytes = ap (λ (m : List (List ℕ)). get_or m head.loop-done.done []) head.as_chunks.ensures.front ∙ chunk_at 5 (length l / 5) head.loop-done.done l few
 
   -- what it leaves, by the run that began
-  left : {b' : Buffers} {k number : ℕ} → settle b' k number ≡ settled_by (instance_in head.loop-done.self) (limit_in head.loop-done.self) b (take (at + 5 - at) (drop at l))
+  left : {b' : Buffers} {k number : ℕ} → settle b' k number ≡ settled_by (instance_in head.loop-done.self) (limit_in head.loop-done.self) b (get_or head.as_chunks.result.0.now head.loop-done.done [])
       → settle b' k number ≡ settled b (step (instance_in s) (limit_in s) b (record_of (drop at l)))
   left e =
-      e ∙ ap (λ (r : Bor Run). settled_by (instance_of r.now.sheet.bytes.now) r.now.limit.most b (take (at + 5 - at) (drop at l))) head.loop-done.invariant.0.run
-      ∙ five_bytes (instance_in s) (limit_in s) b l at
+      e ∙ (λ t. let r = head.loop-done.invariant.0.run t in settled_by (instance_of r.now.sheet.bytes.now) r.now.limit.most b (bytes t)) ∙ five_bytes (instance_in s) (limit_in s) b l at
 
 pub loop-done-init : goal.loop-done-init
 loop-done-init c =
@@ -74,8 +80,9 @@ loop-done-preserved c =
 pub returns : goal.returns
 returns c =
     let (same, going) = c.loop-done.invariant in
-    let n : c.loop-done.done ≡ length c.args.records.now / 5 = omega arith in
+    let e = c.as_chunks.ensures.front_len in
+    let n : c.loop-done.done ≡ length c.as_chunks.result.0.now = omega arith in
     record {
       same = same;
-      ran = ap (λ (k : ℕ). ran_of (buffers_in c.loop-done.self) k c.loop-done.stuck 0) (sym n) ∙ going_end going (omega (arith, c.loop-done-test.false, c.requires.whole));
+      ran = ap (λ (k : ℕ). ran_of (buffers_in c.loop-done.self) k c.loop-done.stuck 0) (sym n) ∙ going_end going (omega (arith, c.loop-done-test.false, c.requires.whole, e));
     }
