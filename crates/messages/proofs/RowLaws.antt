@@ -1,7 +1,9 @@
 -- Rows of costs as the code goes through them: the least over two parts, a test of each cost, and the range of a cost.
 -- Assumes nothing.
-use Rattle.std.proofs.Common.{◌≡◌, ℕ, zero, suc, ◌^◌, ◌<◌, ◌≤◌, Bool, true, false, List, [], ◌∷◌, length, get_or, ℤ, pos, negsuc, ◌+ℤ◌, ◌-ℤ◌, neg_ℤ, nat_abs, ◌<ℤ◌, sym, refl, ap, ◌∙◌, ap₂, not-suc-le-zero, arith, to_z-of_z, w64, SFits, to_z, of_z}
+use Rattle.std.proofs.Common.{◌≡◌, ℕ, zero, suc, ◌*◌, ◌^◌, ◌<◌, ◌≤◌, Bool, true, false, List, [], ◌∷◌, length, get_or, take, drop, drop-drop, ℤ, pos, negsuc, ◌+ℤ◌, ◌-ℤ◌, neg_ℤ, nat_abs, ◌<ℤ◌, sym, refl, ap, ◌∙◌, ap₂, not-suc-le-zero, arith, to_z-of_z, w64, SFits, to_z, of_z}
 use Rattle.std.specs.Int.{int_min}
+use Rattle.std.specs.Simd.{first_chunks}
+use Rattle.std.proofs.Math.Nat.{mul-suc}
 use Rattle.std.proofs.Common.{int_lt}
 use Rattle.integers.proofs.Order.{min_comm, min_eq_left, min_eq_right}
 use Rattle.integers.specs.Least.{min_ℤ, least_from, least_of}
@@ -132,3 +134,12 @@ zero_fits p h = omega (linear, sub (pos 0) p, abs p)
 
 pub neg_fits : (p : ℤ) → nat_abs p ≤ 2 ^ 41 → nat_abs (neg_ℤ p) ≤ 2 ^ 41
 neg_fits p h = omega (arith, neg p, abs p, abs (neg_ℤ p))
+
+-- ---- chunks
+
+-- a chunk of n is what stands n times as far on
+pub chunk_at : {A : Type 0} (n k i : ℕ) (l : List A) → i < k → get_or (first_chunks n k l) i [] ≡ take n (drop (n * i) l)
+chunk_at n zero i l h = absurd (omega arith)
+chunk_at n (suc k) zero l h = let e : n * 0 ≡ 0 = omega arith in ap (λ (j : ℕ). take n (drop j l)) (sym e)
+chunk_at n (suc k) (suc i) l h =
+    chunk_at n k i (drop n l) (omega arith) ∙ ap (take n) (drop-drop (n * i) n l) ∙ ap (λ (j : ℕ). take n (drop j l)) (omega (arith, mul-suc n i))

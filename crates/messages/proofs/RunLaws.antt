@@ -1,8 +1,7 @@
 -- A run as its loop goes through it: some records are done, and the rest from here is the rest of the whole run.
 -- Assumes nothing.
-use Rattle.std.proofs.Common.{◌≡◌, ℕ, zero, suc, ◌+◌, ◌*◌, ◌%◌, ◌<◌, ◌≤◌, cond, eqb, List, [], ◌∷◌, length, get_or, take, get_or-take, lit<, ◌-◌, drop, sym, refl, ap, ◌∙◌, subst, ap₂, inl, inr, arith, length-drop, drop-drop, eq-eqb, eqb-true, ne_eqb}
+use Rattle.std.proofs.Common.{◌≡◌, ℕ, suc, ◌+◌, ◌*◌, ◌%◌, ◌<◌, ◌≤◌, cond, eqb, List, [], ◌∷◌, length, get_or, take, get_or-take, lit<, ◌-◌, drop, sym, refl, ap, ◌∙◌, subst, ap₂, inl, inr, arith, length-drop, drop-drop, eq-eqb, eqb-true, ne_eqb}
 use lib.Seq.{drop-length}
-use Rattle.std.proofs.Math.Nat.{mul-suc}
 use Rattle.instance.specs.Instance.{Instance}
 use Rattle.instance.specs.Sheet.{instance_of}
 use Rattle.instance.specs.Readable.{Proper}
@@ -15,7 +14,6 @@ use borrow.Author.Tests.{eqb-false}
 use Rattle.integers.proofs.Places.{by-test, if-true, if-false}
 use Rattle.rules.proofs.Run.{Done, effect_later, Numbered, effect_number}
 use Rattle.rules.proofs.Loops.{carry, carry_start, carry-done, carry-refused, carry_end, records_next}
-use Rattle.std.specs.Simd.{first_chunks}
 use Rattle.messages.specs.Step.{Settled, settle, settled, settled_as, settled_by}
 use Rattle.messages.specs.Turn.{Good}
 use Rattle.messages.proofs.TurnLaws.{good_next, stuck_once}
@@ -75,13 +73,6 @@ five_bytes I limit b l at =
     let m = drop at l in
     let cut : (k : ℕ) → k < 5 → get_or (take 5 m) k 0 ≡ get_or m k 0 = λ k h. get_or-take 5 m k 0 h in
     (λ t. settled_as I limit b (kind_of (cut 0 (lit< tt) t)) (cut 1 (lit< tt) t) (cut 2 (lit< tt) t + 256 * cut 3 (lit< tt) t) (cut 4 (lit< tt) t))
-
--- a chunk of n is what stands n times as far on
-pub chunk_at : (n k i : ℕ) (l : List ℕ) → i < k → get_or (first_chunks n k l) i [] ≡ take n (drop (n * i) l)
-chunk_at n zero i l h = absurd (omega arith)
-chunk_at n (suc k) zero l h = let e : n * 0 ≡ 0 = omega arith in ap (λ (j : ℕ). take n (drop j l)) (sym e)
-chunk_at n (suc k) (suc i) l h =
-    chunk_at n k i (drop n l) (omega arith) ∙ ap (take n) (drop-drop (n * i) n l) ∙ ap (λ (j : ℕ). take n (drop j l)) (omega (arith, mul-suc n i))
 
 pub record Going (s : List ℕ) (limit : ℕ) (l : List ℕ) (b₀ b : Buffers) (finished stuck : ℕ) : Type 0 where
   pub upto : 5 * finished ≤ length l

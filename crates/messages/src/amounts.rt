@@ -1,4 +1,4 @@
-// What the positions of an edge's end give.
+// What the positions of a node, or of an edge's end, give.
 ghost use Rattle.std.specs.Prelude.{◌≡◌, ◌^◌};
 ghost use Rattle.integers.specs.Sum.{Within};
 ghost use Rattle.messages.specs.EdgeMessage.{taken_of};

@@ -45,6 +45,7 @@ fn cell_least(sheet: &Sheet, cells: &[i64], e: usize) -> i64
 }
 
 // The sum of each edge's least usable cell.
+// Kept: beside `node_sum`. One function of both would take two closures, with a law for each, and save four lines.
 fn edge_sum(held: &Checked) -> i64
     ensures { (result ≡ total held.now.sheet.now.edges (table_least held.now.sheet.now.bytes.now held.now.lent.edges.now)) × (unsigned_abs result ≤ held.now.sheet.now.edges * cost_limit) }
 {
@@ -72,7 +73,7 @@ fn label_leasts(held: &Checked) -> [i64; 256]
 }
 
 // The sum of the first `count`.
-// Kept: the costs are asked to be within the limit, as in `amount_of`.
+// Kept: the leasts are asked to be within the limit: an array that is made for this one call, by the function above.
 fn label_sum(least: &[i64; 256], count: usize) -> i64
     requires count_bound { count ≤ 64 }
     requires within { Within cost_limit least.now }

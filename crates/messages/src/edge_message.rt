@@ -61,7 +61,7 @@ fn excess_with(cost: i64, amount: i64, limit: Limit) -> u64
 }
 
 // At least `OUT` if a cell of the k-th row of a table that receives its amount does: by rows one amount serves all, by columns each has its own.
-// Kept, and in `move_line`: a row is asked to be a `Line`, since it is cut from a buffer where it is gone through, and a struct around it would be made and opened at each cut.
+// Kept: a row is asked, here and in `move_line`, to be a `Line`, since it is cut from a buffer where it is gone through, and a struct around it would be made and opened at each cut.
 fn excess_line(line: &[i64], k: usize, end: End, amounts: &Amounts, limit: Limit) -> u64
     requires { Line k line.now }
     ensures { nat_lt result (2 ^ 63) ≡ every (within limit.most) (moved_line (by_rows end) k amounts.now.each line.now) }
@@ -75,7 +75,7 @@ fn excess_line(line: &[i64], k: usize, end: End, amounts: &Amounts, limit: Limit
 }
 
 // Adds to each cell of the k-th row of a table its amount.
-// Kept, and `move_cells`: over slices, and no methods of a struct that holds them as `&mut`. Tried; of a buffer of which a part was lent to such a struct the proof then knows no more than its length.
+// Kept: it and `move_cells` are over slices, and no methods of a struct that holds them as `&mut`. Tried; of a buffer of which a part was lent to such a struct the proof then knows no more than its length.
 pub(crate) fn move_line(line: &mut [i64], k: usize, end: End, amounts: &Amounts)
     requires { Line k line.old }
     ensures { line.new ≡ moved_line (by_rows end) k amounts.now.each line.old }
@@ -87,7 +87,7 @@ pub(crate) fn move_line(line: &mut [i64], k: usize, end: End, amounts: &Amounts)
 }
 
 // Adds to each cell of an edge's table the amount at its position.
-// Kept: the cells are asked to be within the limit. It writes them, and a `Joint` promises that of what it reads.
+// Kept: the cells are asked to be within the limit: a `Joint` has that promise of what it reads, and what is written has it no longer.
 pub(crate) fn move_cells(
     cells: &mut [i64],
     width: usize,
@@ -204,7 +204,7 @@ impl Joint<'_> {
         Amounts { each: amounts }
     }
 
-    // What each position of the node gives, or turned round what each position of the edge's end does.
+    // What each position of the node gives, or, turned round, what each position of the edge's end does.
     pub(crate) fn amounts(&self, flow: Flow, share: Share) -> Amounts
         ensures { result.each ≡ given_in self.now flow share.parts }
     {

@@ -12,7 +12,8 @@ use crate::records::{Flow, Record};
 use crate::share::Share;
 use instance::{Refusal, Sheet};
 
-// A record of kind 1 between its node and its edge, or turned round of kind 2: the amounts, the tests, and then the writes.
+// A record of kind 1 between its node and its edge, or, turned round, of kind 2: the amounts, the tests, and then the writes.
+// Kept: over the two buffers and no method of a `State`: between its two writes they need not be what a `State` promises.
 pub(crate) fn move_edge(
     sheet: &Sheet,
     limit: Limit,

@@ -11,7 +11,7 @@ use crate::labelled::Labelled;
 use instance::{Sheet, exclusive};
 
 // Whether each byte is 255.
-// Kept: 255 is what the lent bytes have where no matching is kept.
+// Kept: 255 is what the bytes that C lends have where no matching is kept.
 pub(crate) fn all_none(x: &[u8]) -> bool
     ensures { result ≡ every (nat_eq 255) x.now }
 {

@@ -18,7 +18,7 @@ use crate::state::State;
 use instance::Refusal;
 
 // Moves `p` from the node cost to the label cost at the place `i`, where both stay within the limit.
-// Kept: both buffers are asked to be within the limit: it writes one of each, and the promise of a `State` holds again after both.
+// Kept: over the two buffers, which it asks to be within the limit, and no method of a `State`: between its two writes they need not be what a `State` promises.
 pub(crate) fn shift_label(
     nodes: &mut [i64],
     labels: &mut [i64],

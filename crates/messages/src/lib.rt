@@ -33,5 +33,5 @@ pub use list::run;
 pub use opening::open;
 pub use reporting::report;
 
-// What reading promises, passed on to the layer above, which names this crate alone.
+// What reading promises, passed on to the layers above.
 pub use instance::{Refusal, Sheet, exclusive};

@@ -57,7 +57,7 @@ fn start<'a>(sheet: &'a [u8], limit: Limit, records: &[u8], lent: Lent) -> Resul
 }
 
 // Runs a list of records. Refused as a whole it writes nothing; stopped at a record, it leaves what the records before it made.
-// Kept: the buffers one by one, as C lends them.
+// Kept: the buffers one by one, as C lends them to the calls that wrap this one; `Trace` and `Whole` speak of these arguments.
 pub fn run(
     sheet: &[u8],
     records: &[u8],

@@ -9,7 +9,7 @@ use crate::lent::{Lent, lengths_agree};
 use instance::{Refusal, Sheet};
 
 // Fills the four buffers from the sheet: its prices, label costs of 0, and no matching. Refused where the sheet is or a length is wrong, and then nothing is written.
-// Kept: the buffers one by one, as C lends them.
+// Kept: the buffers one by one, as C lends them to the calls that wrap this one; `Trace` and `Whole` speak of these arguments.
 pub fn open(
     sheet: &[u8],
     nodes: &mut [i64],

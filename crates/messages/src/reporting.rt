@@ -42,7 +42,7 @@ fn tell(held: &Checked) -> Result<Report, Refusal>
 }
 
 // The bound, or the bound, the kept matching's cost and the gap. Refused where the sheet or what is lent is, or where the bound exceeds the cost.
-// Kept: the buffers one by one, as C lends them.
+// Kept: the buffers one by one, as C lends them to the calls that wrap this one; `Trace` and `Whole` speak of these arguments.
 #[tactic(auto, using(crate::proofs::LentLaws::lent_unread, crate::proofs::ReportLaws::report_refused, crate::proofs::ReportLaws::report_told, instance::proofs::Told::numbered))]
 pub fn report(
     sheet: &[u8],

@@ -19,6 +19,7 @@ fn names_nothing(step: Record) -> bool
 
 impl State<'_> {
     // Rounds, and adopts what was found. How many roundings were stuck, 0 or 1.
+    // Kept: a count, as a run adds them up.
     pub(crate) fn round_record(&mut self, step: Record) -> Result<usize, Refusal>
         ensures same { Same self.old self.new }
         ensures left { settle (buffers_in self.new) (stuck_in result) (refused_in result) ≡ leaves self.old rounding step }

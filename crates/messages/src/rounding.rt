@@ -82,11 +82,12 @@ impl State<'_> {
         keys
     }
 
-    // Rounds by the node and edge costs: a position for each node, or none where no label is left for one. `x` has the positions of the nodes below `u`, and `untaken` the labels that may still be taken: 255, and those that none of them takes.
+    // Rounds by the node and edge costs: a position for each node, or none where no label is left for one.
     pub(crate) fn round_all(&self) -> Option<[u8; 64]>
         ensures { result ≡ rounded_by (round (instance_in self.now) (costs_by self.now.nodes.now self.now.edges.now)) }
     {
         let sheet = &self.run.sheet;
+        // the positions of the nodes gone through, and the labels that may still be taken: 255, and those that none of them takes
         let mut x = [0u8; 64];
         let mut untaken = [true; 256];
         for u in 0..sheet.nodes {

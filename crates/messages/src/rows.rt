@@ -12,7 +12,7 @@ use crate::limit::Limit;
 use crate::share::Share;
 
 // A sum that fits.
-// Kept, with the difference: as a call it asks for its range once; written out, each reading of it would ask again.
+// Kept: with `minus`, as calls. A call asks for its range once; written out, each reading of it in a proof would show that again.
 pub(crate) fn plus(a: i64, b: i64) -> i64
     requires { FitsSigned w64 (a +ℤ b) }
     ensures { result ≡ a +ℤ b }
@@ -57,21 +57,19 @@ pub(crate) fn least(row: &[i64], start: i64) -> i64
     let mut b = start;
     let mut c = start;
     let mut d = start;
-    let mut rest = row;
-    // Kept: no range, as each turn takes four from the front, and what is left is gone through after it.
-    while let Some((four, more)) = rest.split_first_chunk::<4>() {
+    let (fours, rest) = row.as_chunks::<4>();
+    for four in fours {
         a = a.min(four[0]);
         b = b.min(four[1]);
         c = c.min(four[2]);
         d = d.min(four[3]);
-        rest = more;
     }
     least_in_turn(rest, a.min(b).min(c.min(d)))
 }
 
 // Above every cost: the least of no costs.
 // Kept: a minimum starts from it; as an `Option` each cost would first ask whether there is a least so far.
-pub(crate) const UNBOUNDED: i64 = 0x7FFF_FFFF_FFFF_FFFF;
+pub(crate) const UNBOUNDED: i64 = i64::MAX;
 
 // The least of `start` and the costs of a row but for the one at `skip`.
 #[tactic(auto, using(crate::proofs::RowLaws::least_parts, integers::proofs::Bits::answer, integers::proofs::Least::least_append, integers::proofs::Rows::tail_part))]

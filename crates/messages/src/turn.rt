@@ -10,6 +10,7 @@ use instance::Refusal;
 
 impl State<'_> {
     // A record in five bytes; a kind that does not exist is refused. How many roundings were stuck, 0 or 1.
+    // Kept: a count, as a run adds them up.
     #[tactic(auto, using(crate::proofs::KindLaws::head_none, crate::proofs::KindLaws::kind_unknown, crate::proofs::TurnLaws::none_turn))]
     pub(crate) fn one_record(&mut self, bytes: &[u8; 5]) -> Result<usize, Refusal>
         ensures same { Same self.old self.new }

@@ -8,7 +8,8 @@ use Rattle.messages.specs.declared.running.Run.{Run}
 use Rattle.messages.specs.declared.state.State.{State}
 use Rattle.messages.specs.State.{instance_in, limit_in, buffers_in}
 use Rattle.messages.specs.Step.{settle, settled, settled_by}
-use Rattle.messages.proofs.RunLaws.{ran_of, record_of, chunk_at, going_start, going_end, going_refused, going_few, going_next, five_bytes}
+use Rattle.messages.proofs.RunLaws.{ran_of, record_of, going_start, going_end, going_refused, going_few, going_next, five_bytes}
+use Rattle.messages.proofs.RowLaws.{chunk_at}
 use Rattle.messages.proofs.StateLaws.{good, same_after}
 use Rattle.messages.proofs.state.State.run_all.Goals as goal
 use Rattle.messages.proofs.state.State.run_all.Goals.{After-one_record, At-loop-done, In-loop-done, Start}
