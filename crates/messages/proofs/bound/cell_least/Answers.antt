@@ -38,8 +38,3 @@ usable_least-requires c =
           (subst (λ (y : List ℕ). Ends true (labels_of (s d) ((I d).low c.args.e)) y l) (sym (high_is d)) (ends_of (s d) (x d).readable (edge_there (x d) c.requires.edge) l c.requires.fits.size true));
       within = c.requires.fits.range;
     }
-
-pub returns : goal.returns
-returns c =
-    let d = (goal.at.returns c).After-labels_of-high in
-    answer c.usable_least.type_inv c.usable_least.ensures ∙ ap₂ (λ (l h : List ℕ). least_of (usable_cells true l h c.args.cells.now)) (low_is d) (high_is d)

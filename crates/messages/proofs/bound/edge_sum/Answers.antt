@@ -72,9 +72,6 @@ loop-e-preserved c =
     (summed_more (head d).loop-e.invariant c.loop-e-test.true c.size.result c.size.ensures.0 (least d (cells d)) (small d)
     (ap (least d) (part_is (head d).loop-e.invariant c.loop-e-test.true c.size.result c.size.ensures.0 (edge_parts (start d).args.held.now.sheet.now (edges_held (start d).args.held.now)))))
 
-pub returns : goal.returns
-returns c = let i = c.loop-e.invariant in added_all i.added i.upto c.loop-e-test.false
-
 pub overflow_add-to : goal.overflow_add-to
 overflow_add-to c = omega (arith, inside c)
 

@@ -41,9 +41,6 @@ overflow_add-sheet c = omega (arith, inside (goal.at.overflow_add-sheet c).Else-
 pub label-label-requires : goal.label-label-requires
 label-label-requires c = inside (goal.at.label-label-requires c).Else-degree-k
 
-pub bounds-untaken-label : goal.bounds-untaken-label
-bounds-untaken-label c = omega (arith, c.label-label.ensures.1, untaken_long (instance_of c.args.sheet.now.bytes.now) c.args.x.now c.loop-u.invariant)
-
 pub returns-then-not-untaken-label : goal.returns-then-not-untaken-label
 returns-then-not-untaken-label c =
     let J = instance_of c.args.sheet.now.bytes.now in

@@ -35,12 +35,6 @@ returns-then-not-lengths_agree c =
     let b = lends (goal.at.returns-then-not-lengths_agree c).Start in
     lent_unfit q.bytes.now c.args.limit.most b q.readable (lengths_by q b ∙ sym c.lengths_agree.ensures ∙ c.if-not-lengths_agree.true)
 
-pub incumbent_ok-requires : goal.incumbent_ok-requires
-incumbent_ok-requires c =
-    let p = (goal.at.incumbent_ok-requires c).Else-not-lengths_agree in
-    let (l1, l2, l3, l4) = lengths_are c.args.sheet.now.bytes.now (lends (start p)) (agreed p) in
-    l4 ∙ sym (nodes_is c.args.sheet.now)
-
 pub returns-then-not-costs_ok : goal.returns-then-not-costs_ok
 returns-then-not-costs_ok c =
     let p = (goal.at.returns-then-not-costs_ok c).Else-not-lengths_agree in

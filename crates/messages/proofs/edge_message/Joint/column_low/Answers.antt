@@ -33,9 +33,3 @@ returns c =
 
 pub loop-r-init : goal.loop-r-init
 loop-r-init c = but_none _ unbounded _
-
-pub less_at-best-requires : goal.less_at-best-requires
-less_at-best-requires c =
-    let x = c.args.self.now in
-    let h : c.loop-r.r < rows x = omega (arith, c.height-height.ensures) in
-    rw c.width-width.ensures (cell_in x.joined.ends.shape c.loop-r.r c.args.k h c.requires)

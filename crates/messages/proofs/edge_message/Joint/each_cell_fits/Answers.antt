@@ -17,11 +17,6 @@ shape p = shaped p.args.self.now.joined.ends p.width-width.ensures p.height-heig
 end : (c : In-loop-k) → c.loop-k.k * c.width-width.result + c.width-width.result ≤ length c.args.self.now.cells.now
 end c = row_end (shape (goal.at.In-loop-k c).After-height-height) c.loop-k-test.true refl
 
-pub excess_line-all-requires : goal.excess_line-all-requires
-excess_line-all-requires c =
-    let s = shape (goal.at.excess_line-all-requires c).After-height-height in
-    rw (row_part s c.loop-k.k refl) (row_line s c.args.self.now.joined.cell_range c.loop-k.k c.loop-k-test.true)
-
 pub loop-k-preserved : goal.loop-k-preserved
 loop-k-preserved c =
     let x = c.args in

@@ -32,19 +32,6 @@ offset_bounds-sheet-e c = omega (arith, c.requires, edges_few c.args.self.now.sh
 pub bounds-sheet-e : goal.bounds-sheet-e
 bounds-sheet-e c = omega (arith, c.requires, edges_few c.args.self.now.sheet.now)
 
-pub bounds-x-u : goal.bounds-x-u
-bounds-x-u c = omega (arith, c.low-u.ensures.1, c.args.self.now.labelling.size, nodes_is c.args.self.now.sheet.now)
-
-pub overflow_mul-result : goal.overflow_mul-result
-overflow_mul-result c =
-    omega (arith, mul-le-mul {n₁ = c.degree.result} {m₁ = c.from.result} {n₂ = 16} {m₂ = 255} c.degree.ensures.2 (omega (arith, c.from.ensures)))
-
-pub bounds-x-v : goal.bounds-x-v
-bounds-x-v c = omega (arith, c.high-v.ensures.1, c.args.self.now.labelling.size, nodes_is c.args.self.now.sheet.now)
-
-pub overflow_add-result : goal.overflow_add-result
-overflow_add-result c = omega (arith, small c)
-
 pub overflow_add-result-2 : goal.overflow_add-result-2
 overflow_add-result-2 c = omega (arith, small c)
 

@@ -42,9 +42,6 @@ offset_bounds-sheet-u c = omega (arith, c.loop-u-test.true, nodes_few c.args.sel
 pub bounds-sheet-u : goal.bounds-sheet-u
 bounds-sheet-u c = omega (arith, c.loop-u-test.true, nodes_few c.args.self.now.sheet.now)
 
-pub bounds-self-u : goal.bounds-self-u
-bounds-self-u c = omega (arith, c.loop-u-test.true, c.args.self.now.labelling.size, nodes_is c.args.self.now.sheet.now)
-
 pub overflow_add-sheet : goal.overflow_add-sheet
 overflow_add-sheet c = omega (arith, inside (goal.at.overflow_add-sheet c).In-loop-u, positions_few c.args.self.now.sheet.now, c.from.ensures)
 
