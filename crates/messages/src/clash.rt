@@ -23,6 +23,7 @@ pub(crate) fn mask_of(labels: &[u8]) -> u64
 }
 
 // The place at which `label` meets an unusable cell, if there is one, by looking at each.
+#[tactic(auto, using(crate::proofs::ClashLaws::skips_here))]
 fn place_of(labels: &[u8], label: u8) -> Option<usize>
     requires { Rising labels.now }
     ensures { Skips labels.now label result }

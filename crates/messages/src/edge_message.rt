@@ -19,6 +19,7 @@ use crate::rows::{
 use crate::share::Share;
 
 // What the least of a position gives down to the least of all, turned round, and 0 if it has no usable cell.
+#[tactic(auto, using(integers::proofs::Bits::answer, integers::proofs::Share::share_back), unfolding(crate::specs::EdgeMessage::turned_least))]
 fn turned_least(cost: i64, low: i64, share: Share) -> i64
     requires { (cost <ℤ unbounded → unsigned_abs cost ≤ cost_limit) × (unsigned_abs low ≤ cost_limit) }
     ensures { result ≡ turned_least cost low share.parts }

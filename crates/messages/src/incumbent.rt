@@ -19,6 +19,7 @@ pub(crate) fn all_none(x: &[u8]) -> bool
 }
 
 // Whether none is kept; of no nodes the empty matching is.
+#[tactic(auto, using(crate::proofs::IncumbentLaws::none_empty, crate::proofs::IncumbentLaws::none_some))]
 pub(crate) fn none_kept(x: &[u8]) -> bool
     ensures { result ≡ none_kept x.now }
 {
@@ -47,6 +48,7 @@ pub(crate) fn is_matching(sheet: &Sheet, x: &[u8]) -> bool
 
 impl Labelled<'_> {
     // Whether it replaces the incumbent: none is kept, or its price is lower.
+    #[tactic(auto, using(crate::proofs::IncumbentLaws::kept_labelling, crate::proofs::IncumbentLaws::replaces_kept, crate::proofs::IncumbentLaws::replaces_none, integers::proofs::Bits::same))]
     fn replaces(&self, old: &[u8]) -> bool
         requires { IncumbentFits self.now.sheet.now.bytes.now old.now }
         ensures { result ≡ replaces (instance_of self.now.sheet.now.bytes.now) self.now.x.now old.now }
@@ -62,6 +64,7 @@ impl Labelled<'_> {
     }
 
     // Puts the labelling in the incumbent's place where it replaces it.
+    #[tactic(auto, using(crate::proofs::IncumbentLaws::adopted_new, crate::proofs::IncumbentLaws::adopted_old))]
     pub(crate) fn adopt(&self, incumbent: &mut [u8])
         requires { IncumbentFits self.now.sheet.now.bytes.now incumbent.old }
         ensures { incumbent.new ≡ adopted_of (instance_of self.now.sheet.now.bytes.now) self.now.x.now incumbent.old }

@@ -19,6 +19,7 @@ use instance::Refusal;
 
 // Moves `p` from the node cost to the label cost at the place `i`, where both stay within the limit.
 // Kept: over the two buffers, which it asks to be within the limit, and no method of a `State`: between its two writes they need not be what a `State` promises.
+#[tactic(auto, using(crate::proofs::LabelMessageLaws::moved_both, crate::proofs::LabelMessageLaws::moved_not, integers::proofs::Bits::same))]
 pub(crate) fn shift_label(
     nodes: &mut [i64],
     labels: &mut [i64],
@@ -45,6 +46,7 @@ pub(crate) fn shift_label(
 }
 
 // The less of `best` and the label cost at a place, unless the place is `own`.
+#[tactic(auto, using(crate::proofs::RivalLaws::rival_other, crate::proofs::RivalLaws::rival_own, crate::proofs::RowLaws::less_back, integers::proofs::Bits::answer))]
 fn meet(labels: &[i64], place: usize, own: usize, best: i64) -> i64
     requires { place < length labels.now }
     ensures { result ≡ least_from best (map (λ j. slice_index_or labels.now j (pos 0)) (others own (place ∷ []))) }

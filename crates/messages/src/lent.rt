@@ -41,6 +41,7 @@ fn costs_ok(lent: Lent, limit: Limit) -> bool
 }
 
 // Whether the kept bytes are none or a matching.
+#[tactic(auto, using(crate::proofs::LentLaws::incumbent_none, crate::proofs::LentLaws::incumbent_some))]
 fn incumbent_ok(sheet: &Sheet, x: &[u8]) -> bool
     requires { length x.now ≡ sheet.now.nodes }
     ensures { result ≡ incumbent_ok (instance_of sheet.now.bytes.now) x.now }

@@ -1,13 +1,11 @@
 -- `cell_least` meets its contract: the labels of both ends are parts of the sheet.
-use Rattle.std.proofs.Common.{◌≡◌, ℕ, true, List, sym, ap, ◌∙◌, subst, ap₂}
-use Rattle.integers.specs.Least.{least_of}
-use Rattle.integers.proofs.Bits.{answer}
+use Rattle.std.proofs.Common.{◌≡◌, ℕ, true, List, sym, ap, ◌∙◌, subst}
 use Rattle.instance.specs.declared.sheet.Sheet.{Sheet}
 use Rattle.instance.specs.Instance.{Instance}
 use Rattle.instance.specs.Sheet.{instance_of}
 use Rattle.instance.specs.Described.{labels_of}
 use Rattle.instance.proofs.Sheets.{edge_there}
-use Rattle.messages.specs.EdgeMessage.{usable_cells, Ends}
+use Rattle.messages.specs.EdgeMessage.{Ends}
 use Rattle.messages.proofs.EndLaws.{ends_of}
 use Rattle.messages.proofs.bound.cell_least.Goals as goal
 use Rattle.messages.proofs.bound.cell_least.Goals.{After-labels_of-high}
@@ -38,8 +36,3 @@ usable_least-requires c =
           (subst (λ (y : List ℕ). Ends true (labels_of (s d) ((I d).low c.args.e)) y l) (sym (high_is d)) (ends_of (s d) (x d).readable (edge_there (x d) c.requires.edge) l c.requires.fits.size true));
       within = c.requires.fits.range;
     }
-
-pub returns : goal.returns
-returns c =
-    let d = (goal.at.returns c).After-labels_of-high in
-    answer c.usable_least.type_inv c.usable_least.ensures ∙ ap₂ (λ (l h : List ℕ). least_of (usable_cells true l h c.args.cells.now)) (low_is d) (high_is d)

@@ -11,7 +11,7 @@ use Rattle.messages.specs.Lent.{Fits}
 use Rattle.instance.specs.Described.{labels_of}
 use Rattle.messages.specs.EdgeMessage.{usable_of, usable_cells}
 use Rattle.messages.proofs.RowLaws.{least_of_within}
-use Rattle.messages.proofs.SumLaws.{summed_none, part_inside, part_is, part_length, part_range, summed_fits, summed_more, added_all}
+use Rattle.messages.proofs.SumLaws.{summed_none, part_inside, part_is, part_length, part_range, summed_fits, summed_more}
 use Rattle.instance.proofs.Sheets.{edges_few}
 use Rattle.messages.proofs.BoundLaws.{edge_parts}
 use Rattle.messages.proofs.StateLaws.{edges_held}
@@ -71,9 +71,6 @@ loop-e-preserved c =
     let d = (goal.at.loop-e-preserved c).After-size in rw (answer c.plus-sum.type_inv c.plus-sum.ensures, least-is (goal.at.loop-e-preserved c).After-cell_least)
     (summed_more (head d).loop-e.invariant c.loop-e-test.true c.size.result c.size.ensures.0 (least d (cells d)) (small d)
     (ap (least d) (part_is (head d).loop-e.invariant c.loop-e-test.true c.size.result c.size.ensures.0 (edge_parts (start d).args.held.now.sheet.now (edges_held (start d).args.held.now)))))
-
-pub returns : goal.returns
-returns c = let i = c.loop-e.invariant in added_all i.added i.upto c.loop-e-test.false
 
 pub overflow_add-to : goal.overflow_add-to
 overflow_add-to c = omega (arith, inside c)

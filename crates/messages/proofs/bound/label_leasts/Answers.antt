@@ -16,18 +16,6 @@ loop-i-init c = leasts_none _ _
 pub label-l-requires : goal.label-l-requires
 label-l-requires c = omega (arith, c.loop-i-test.true, (labels_held c.args.held.now).size, positions_is c.args.held.now.sheet.now)
 
-pub offset_bounds-least-l : goal.offset_bounds-least-l
-offset_bounds-least-l c = omega (arith, c.label-l.ensures.1)
-
-pub bounds-least-l : goal.bounds-least-l
-bounds-least-l c = c.label-l.ensures.1
-
-pub offset_bounds-least-l-in-loop-i : goal.offset_bounds-least-l-in-loop-i
-offset_bounds-least-l-in-loop-i c = omega (arith, c.label-l.ensures.1)
-
-pub bounds-least-l-in-loop-i : goal.bounds-least-l-in-loop-i
-bounds-least-l-in-loop-i c = c.label-l.ensures.1
-
 pub loop-i-preserved : goal.loop-i-preserved
 loop-i-preserved c =
     let a = c.args in

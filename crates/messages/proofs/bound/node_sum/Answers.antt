@@ -6,7 +6,7 @@ use Rattle.integers.proofs.Bits.{answer}
 use Rattle.instance.specs.Instance.{first}
 use Rattle.rules.specs.Calls.{cost_limit}
 use Rattle.messages.proofs.RowLaws.{least_of_within}
-use Rattle.messages.proofs.SumLaws.{summed_none, part_inside, part_is, part_length, part_range, summed_fits, summed_more, added_all}
+use Rattle.messages.proofs.SumLaws.{summed_none, part_inside, part_is, part_length, part_range, summed_fits, summed_more}
 use Rattle.instance.proofs.Sheets.{nodes_few, degree_some}
 use Rattle.messages.proofs.BoundLaws.{node_parts}
 use Rattle.messages.proofs.StateLaws.{nodes_held}
@@ -59,9 +59,6 @@ loop-u-preserved c =
     (summed_more (head d).loop-u.invariant c.loop-u-test.true c.degree.result c.degree.ensures.0 (least_of (row d)) (small d)
     (ap least_of (part_is (head d).loop-u.invariant c.loop-u-test.true c.degree.result c.degree.ensures.0 (node_parts (start d).args.held.now.sheet.now (nodes_held (start d).args.held.now)))))
 
-pub returns : goal.returns
-returns c = let i = c.loop-u.invariant in added_all i.added i.upto c.loop-u-test.false
-
 pub overflow_add-to : goal.overflow_add-to
 overflow_add-to c = omega (arith, inside c)
 
@@ -70,6 +67,3 @@ offset_bounds-held-at c = omega (arith, inside (goal.at.offset_bounds-held-at c)
 
 pub slice_bounds-least_of-end : goal.slice_bounds-least_of-end
 slice_bounds-least_of-end c = omega (arith, inside (goal.at.slice_bounds-least_of-end c).After-degree)
-
-pub least_of-requires : goal.least_of-requires
-least_of-requires c = some (goal.at.least_of-requires c).After-degree

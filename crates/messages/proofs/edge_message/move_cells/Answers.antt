@@ -54,15 +54,3 @@ returns c =
 
 pub loop-k-init : goal.loop-k-init
 loop-k-init c = rw zero-mul (written_none _ _ _ (omega arith))
-
-pub overflow_add-b : goal.overflow_add-b
-overflow_add-b c = omega (arith, end c)
-
-pub offset_bounds-cells-a : goal.offset_bounds-cells-a
-offset_bounds-cells-a c = omega (arith, end c)
-
-pub slice_bounds-move_line-end : goal.slice_bounds-move_line-end
-slice_bounds-move_line-end c = omega (arith, end c, written_length c.loop-k.invariant)
-
-pub shape_of-cells : goal.shape_of-cells
-shape_of-cells c = written_length c.loop-k.invariant

@@ -8,8 +8,7 @@ use Rattle.instance.specs.Described.{labels_of}
 use Rattle.messages.specs.EdgeMessage.{by_rows}
 use Rattle.messages.specs.EdgeRecord.{EdgeLegal}
 use Rattle.messages.specs.Records.{to_node}
-use Rattle.messages.proofs.UsableLaws.{shaped}
-use Rattle.messages.proofs.EdgeRecordLaws.{node_here, edge_here, legal_node, legal_edge_lem, Found, row_ends, table_ends, row_room, table_room, line_first, legal_joined, legal_written, legal_kept}
+use Rattle.messages.proofs.EdgeRecordLaws.{legal_node, legal_edge_lem, Found, row_ends, table_ends, row_room, table_room, legal_joined, legal_written, legal_kept}
 use Rattle.messages.proofs.edge_record.move_edge.Goals as goal
 use Rattle.messages.proofs.edge_record.move_edge.Goals.{After-either-w, After-labels_of-other, Start}
 
@@ -40,18 +39,6 @@ module _ (o : After-either-w) where
   end_node : o.either-w.result < x.nodes
   end_node = subst (λ (w : ℕ). w < x.nodes) (sym o.either-w.ensures) (by_cond (λ (w : ℕ). w < x.nodes) b (λ _. o.high.ensures.1) (λ _. o.low-low.ensures.1))
 
-pub low-low-requires : goal.low-low-requires
-low-low-requires c = edge_here c.args.sheet.now c.requires
-
-pub high-requires : goal.high-requires
-high-requires c = edge_here c.args.sheet.now c.requires
-
-pub labels_of-own-requires : goal.labels_of-own-requires
-labels_of-own-requires c = node_here c.args.sheet.now c.requires
-
-pub labels_of-other-requires : goal.labels_of-other-requires
-labels_of-other-requires c = end_node (goal.at.labels_of-other-requires c).After-either-w
-
 -- the labels of both
 module _ (p : After-labels_of-other) where
   abbrev o : After-either-w
@@ -73,17 +60,6 @@ module _ (p : After-labels_of-other) where
 
 pub invariant_of-joint : goal.invariant_of-joint
 invariant_of-joint c = let p = (goal.at.invariant_of-joint c).After-labels_of-other in record { joined = legal_joined (found p) }
-
-pub invariant_of-share : goal.invariant_of-share
-invariant_of-share c = record { some = c.requires.shares }
-
-pub move_line-requires : goal.move_line-requires
-move_line-requires c = line_first (legal_joined (found (goal.at.move_line-requires c).After-labels_of-other))
-
-pub move_cells-requires : goal.move_cells-requires
-move_cells-requires c =
-    let j = legal_joined (found (goal.at.move_cells-requires c).After-labels_of-other) in
-    record { shape = shaped j.ends c.width-width.ensures c.height-height.ensures; within = j.cell_range }
 
 pub returns-then-fits : goal.returns-then-fits
 returns-then-fits c =

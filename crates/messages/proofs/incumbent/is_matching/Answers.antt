@@ -3,7 +3,7 @@ use Rattle.std.proofs.Common.{◌≡◌, ℕ, ◌+◌, ◌<◌, get_or, ap, ◌�
 use Rattle.instance.specs.Sheet.{instance_of}
 use Rattle.instance.proofs.Sheets.{nodes_is, nodes_few, positions_few}
 use Rattle.rules.specs.Costs.{chosen}
-use Rattle.messages.proofs.IncumbentLaws.{place_is, place_in, match_none, match_over, match_taken, match_more, match_bad, match_done, untaken_long}
+use Rattle.messages.proofs.IncumbentLaws.{place_is, place_in, match_none, match_over, match_taken, match_more, match_bad, match_done}
 use Rattle.messages.proofs.incumbent.is_matching.Goals as goal
 use Rattle.messages.proofs.incumbent.is_matching.Goals.{After-label-label, Else-degree-k}
 
@@ -40,9 +40,6 @@ overflow_add-sheet c = omega (arith, inside (goal.at.overflow_add-sheet c).Else-
 
 pub label-label-requires : goal.label-label-requires
 label-label-requires c = inside (goal.at.label-label-requires c).Else-degree-k
-
-pub bounds-untaken-label : goal.bounds-untaken-label
-bounds-untaken-label c = omega (arith, c.label-label.ensures.1, untaken_long (instance_of c.args.sheet.now.bytes.now) c.args.x.now c.loop-u.invariant)
 
 pub returns-then-not-untaken-label : goal.returns-then-not-untaken-label
 returns-then-not-untaken-label c =

@@ -1,11 +1,9 @@
 -- `check_lent` meets its contract: the checks in their order, each by what its function found.
 use Rattle.std.proofs.Common.{◌≡◌, true, sym, ◌∙◌}
 use Rattle.instance.specs.Sheet.{instance_of}
-use Rattle.instance.proofs.Sheets.{nodes_is}
 use Rattle.rules.specs.Costs.{Buffers, in_range}
 use Rattle.rules.specs.Calls.{lengths_ok}
 use Rattle.messages.specs.Lent.{lent_of}
-use Rattle.rules.proofs.Opening.{lengths_are}
 use Rattle.messages.proofs.LentLaws.{lengths_by, lent_unfit, lent_far, lent_unmatched, lent_good, range_by}
 use Rattle.messages.proofs.lent.check_lent.Goals as goal
 use Rattle.messages.proofs.lent.check_lent.Goals.{After-incumbent_ok, Else-not-lengths_agree, Start}
@@ -34,12 +32,6 @@ returns-then-not-lengths_agree c =
     let q = c.args.sheet.now in
     let b = lends (goal.at.returns-then-not-lengths_agree c).Start in
     lent_unfit q.bytes.now c.args.limit.most b q.readable (lengths_by q b ∙ sym c.lengths_agree.ensures ∙ c.if-not-lengths_agree.true)
-
-pub incumbent_ok-requires : goal.incumbent_ok-requires
-incumbent_ok-requires c =
-    let p = (goal.at.incumbent_ok-requires c).Else-not-lengths_agree in
-    let (l1, l2, l3, l4) = lengths_are c.args.sheet.now.bytes.now (lends (start p)) (agreed p) in
-    l4 ∙ sym (nodes_is c.args.sheet.now)
 
 pub returns-then-not-costs_ok : goal.returns-then-not-costs_ok
 returns-then-not-costs_ok c =

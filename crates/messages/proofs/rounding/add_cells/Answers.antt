@@ -1,8 +1,7 @@
 -- `add_cells` meets its contract: after i places the row's first i are added.
-use Rattle.std.proofs.Common.{◌≡◌, ℕ, List, length, get_or, take, set, ℤ, pos, ◌+ℤ◌, sym, ap, ◌∙◌, ap₂, arith, take_all, to_z-of_z, w64, SFits, rules}
+use Rattle.std.proofs.Common.{◌≡◌, ℕ, List, get_or, set, ℤ, pos, ◌+ℤ◌, sym, ap, ◌∙◌, ap₂, arith, to_z-of_z, w64, SFits, rules}
 use Rattle.integers.proofs.Parts.{linear, add, abs}
-use Rattle.messages.specs.Rounded.{added}
-use Rattle.messages.proofs.KeyLaws.{added_none, added_at, added_more, length-added}
+use Rattle.messages.proofs.KeyLaws.{added_none, added_at, added_more}
 use Rattle.messages.proofs.rounding.add_cells.Goals as goal
 use Rattle.messages.proofs.rounding.add_cells.Goals.{After-keys-in-loop-i-1, At-loop-i}
 

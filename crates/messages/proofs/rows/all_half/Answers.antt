@@ -1,7 +1,6 @@
 -- `all_half` meets its contract. The loop's invariant: if what is joined stays below twice `half`, each cost so far lies within it.
-use Rattle.std.proofs.Common.{ℕ, ◌≤◌, get_or, ℤ, pos, nat_abs, subst, arith, to_z-of_z, w64, rules}
-use Rattle.integers.specs.Sum.{Within}
-use Rattle.messages.proofs.ExcessLaws.{halving_none, halving_more, halving_all}
+use Rattle.std.proofs.Common.{◌≤◌, get_or, ℤ, pos, nat_abs, subst, arith, to_z-of_z, w64, rules}
+use Rattle.messages.proofs.ExcessLaws.{halving_more}
 use Rattle.messages.proofs.rows.all_half.Goals as goal
 
 pub loop-cost-preserved : goal.loop-cost-preserved

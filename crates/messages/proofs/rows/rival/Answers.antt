@@ -1,5 +1,5 @@
 -- `rival` meets its contract: the first of the others is the start value, and counts as an element besides.
-use Rattle.std.proofs.Common.{ℕ, ◌≤◌, get_or, ℤ, pos, ap, ◌∙◌, arith, to_z-of_z, w64, rules}
+use Rattle.std.proofs.Common.{ℕ, get_or, ℤ, pos, ap, ◌∙◌, arith, to_z-of_z, w64, rules}
 use Rattle.integers.specs.Least.{least_from, without}
 use Rattle.integers.proofs.Rows.{length_without}
 use Rattle.integers.proofs.Bits.{answer}

@@ -4,7 +4,7 @@ use Rattle.integers.specs.Share.{share, nearest}
 use Rattle.integers.proofs.Parts.{linear, parts}
 use Rattle.integers.proofs.Share.{nearest_le, share-pos, share_one}
 use Rattle.integers.proofs.Bits.{low}
-use Rattle.messages.proofs.RowLaws.{apart_within, difference_fits, difference_is, share_below, from_zero, zero_fits}
+use Rattle.messages.proofs.RowLaws.{apart_within, difference_is, share_below, from_zero, zero_fits}
 use Rattle.messages.proofs.rows.share_of.Goals as goal
 use Rattle.messages.proofs.rows.share_of.Goals.{After-nearest_to-size, Start}
 

@@ -1,10 +1,9 @@
 -- `column_low` meets its contract. The loop's invariant: `best` is the column's least over the first r rows but for `skip`.
-use Rattle.std.proofs.Common.{◌≡◌, ℕ, ◌+◌, ◌*◌, ◌<◌, get_or, ℤ, pos, sym, ap, ◌∙◌, ap₂, mul_comm, arith}
+use Rattle.std.proofs.Common.{◌≡◌, ℕ, ◌+◌, ◌*◌, get_or, ℤ, pos, sym, ap, ◌∙◌, ap₂, mul_comm, arith}
 use Rattle.integers.specs.Least.{min_ℤ}
 use Rattle.integers.proofs.Bits.{answer}
 use Rattle.messages.specs.EdgeMessage.{unbounded}
 use Rattle.messages.specs.Joints.{columns, rows}
-use Rattle.messages.proofs.EdgeLaws.{cell_in}
 use Rattle.messages.proofs.UsableLaws.{least_but, but_none, but_skipped, but_more, but_all}
 use Rattle.messages.proofs.edge_message.Joint.column_low.Goals as goal
 use Rattle.messages.proofs.edge_message.Joint.column_low.Invariants.{column}
@@ -33,9 +32,3 @@ returns c =
 
 pub loop-r-init : goal.loop-r-init
 loop-r-init c = but_none _ unbounded _
-
-pub less_at-best-requires : goal.less_at-best-requires
-less_at-best-requires c =
-    let x = c.args.self.now in
-    let h : c.loop-r.r < rows x = omega (arith, c.height-height.ensures) in
-    rw c.width-width.ensures (cell_in x.joined.ends.shape c.loop-r.r c.args.k h c.requires)

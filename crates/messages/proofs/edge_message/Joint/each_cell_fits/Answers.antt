@@ -3,7 +3,7 @@ use Rattle.std.proofs.Common.{◌+◌, ◌*◌, ◌≤◌, List, length, ℤ, sy
 use Rattle.integers.specs.Checks.{within}
 use Rattle.integers.specs.Places.{every}
 use Rattle.messages.specs.EdgeMessage.{by_rows, moved_line, moved_cells, Shape}
-use Rattle.messages.proofs.EdgeLaws.{row_end, row_part, row_line, lines_fit}
+use Rattle.messages.proofs.EdgeLaws.{row_end, row_part, lines_fit}
 use Rattle.messages.proofs.UsableLaws.{shaped}
 use Rattle.messages.proofs.ExcessLaws.{joining_none, joining_more, joining_all}
 use Rattle.messages.proofs.edge_message.Joint.each_cell_fits.Goals as goal
@@ -16,11 +16,6 @@ shape p = shaped p.args.self.now.joined.ends p.width-width.ensures p.height-heig
 -- the row ends within the table
 end : (c : In-loop-k) → c.loop-k.k * c.width-width.result + c.width-width.result ≤ length c.args.self.now.cells.now
 end c = row_end (shape (goal.at.In-loop-k c).After-height-height) c.loop-k-test.true refl
-
-pub excess_line-all-requires : goal.excess_line-all-requires
-excess_line-all-requires c =
-    let s = shape (goal.at.excess_line-all-requires c).After-height-height in
-    rw (row_part s c.loop-k.k refl) (row_line s c.args.self.now.joined.cell_range c.loop-k.k c.loop-k-test.true)
 
 pub loop-k-preserved : goal.loop-k-preserved
 loop-k-preserved c =

@@ -9,7 +9,7 @@ use Rattle.messages.specs.EdgeMessage.{by_rows, usable_cells, edge_amounts, Ends
 use Rattle.messages.specs.Joints.{least_in}
 use Rattle.messages.proofs.OverLaws.{length_over, over_at, over_front}
 use Rattle.messages.proofs.EdgeLaws.{zeros, edge_within}
-use Rattle.messages.proofs.UsableLaws.{own_few, own_some, low_within, position_within, edge_least_lem, edge_is}
+use Rattle.messages.proofs.UsableLaws.{own_few, low_within, position_within, edge_least_lem, edge_is}
 use Rattle.messages.proofs.edge_message.Joint.edge_amounts.Goals as goal
 use Rattle.messages.proofs.edge_message.Joint.edge_amounts.Goals.{After-least_by-amounts, After-least_of-low, After-turn_all}
 
@@ -88,13 +88,3 @@ invariant_of-result c =
 
 pub returns : goal.returns
 returns c = given (goal.at.returns c).After-turn_all
-
-pub slice_bounds-amounts-end : goal.slice_bounds-amounts-end
-slice_bounds-amounts-end c = omega (arith, few c, long c)
-
-pub slice_bounds-least_of-end : goal.slice_bounds-least_of-end
-slice_bounds-least_of-end c = sym (taken (goal.at.slice_bounds-least_of-end c).After-least_by-amounts)
-
-pub least_of-low-requires : goal.least_of-low-requires
-least_of-low-requires c =
-    let s = (goal.at.least_of-low-requires c).After-least_by-amounts in omega (arith, taken s, own_some (b (j s)) (ends (j s)))

@@ -6,12 +6,8 @@ use Rattle.integers.proofs.Ranges.{shifted}
 use Rattle.messages.specs.EdgeMessage.{moved_row}
 use Rattle.messages.specs.Joints.{cells_with}
 use Rattle.messages.proofs.EdgeLaws.{taken_row}
-use Rattle.messages.proofs.EdgeRecordLaws.{line_first}
 use Rattle.messages.proofs.edge_message.Joint.fits.Goals as goal
 use Rattle.messages.proofs.edge_message.Joint.fits.Goals.{After-excess_line, Start}
-
-pub excess_line-requires : goal.excess_line-requires
-excess_line-requires c = line_first c.args.self.now.joined
 
 -- the row's test, and what is answered with the table's
 module _ (c : After-excess_line) where

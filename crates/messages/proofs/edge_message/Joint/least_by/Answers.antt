@@ -1,15 +1,12 @@
 -- `least_by` meets its contract. The loop's invariant: the first k places hold the least of those positions, and the others 0.
-use Rattle.std.proofs.Common.{ap, ◌∙◌, arith}
+use Rattle.std.proofs.Common.{ap, ◌∙◌}
 use Rattle.integers.specs.Least.{least_from}
 use Rattle.integers.proofs.Bits.{answer}
 use Rattle.messages.specs.EdgeMessage.{by_rows, unbounded}
-use Rattle.messages.proofs.OverLaws.{written_none, written_more, written_all}
+use Rattle.messages.proofs.OverLaws.{written_none, written_more}
 use Rattle.messages.proofs.EdgeLaws.{zeros}
 use Rattle.messages.proofs.UsableLaws.{line_left, own_few}
 use Rattle.messages.proofs.edge_message.Joint.least_by.Goals as goal
-
-pub low_at-requires : goal.low_at-requires
-low_at-requires c = record { k_bound = c.loop-k-test.true; skip_bound = c.clash-skip.ensures.inside }
 
 pub loop-k-preserved : goal.loop-k-preserved
 loop-k-preserved c =
@@ -19,12 +16,3 @@ loop-k-preserved c =
 
 pub loop-k-init : goal.loop-k-init
 loop-k-init c = let j = c.args.self.now in written_none _ _ zeros (own_few (by_rows j.end) j.joined.ends)
-
-pub clash-skip-requires : goal.clash-skip-requires
-clash-skip-requires c = (c.args.self.now.joined.ends.rises, c.mask_of-mask.ensures)
-
-pub bounds-least-k : goal.bounds-least-k
-bounds-least-k c = let j = c.args.self.now in omega (arith, own_few (by_rows j.end) j.joined.ends, c.loop-k-test.true)
-
-pub returns : goal.returns
-returns c = written_all c.loop-k.invariant c.loop-k-test.false

@@ -39,8 +39,5 @@ invariant_of-result c =
 pub returns : goal.returns
 returns c = given (goal.at.returns c).After-loop-k
 
-pub least_of-low-requires : goal.least_of-low-requires
-least_of-low-requires c = c.args.self.now.joined.some
-
 pub loop-k-init : goal.loop-k-init
 loop-k-init c = written_none _ _ zeros c.args.self.now.joined.few

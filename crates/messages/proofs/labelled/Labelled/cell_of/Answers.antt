@@ -1,7 +1,7 @@
 -- `cell_of` meets its contract: the row of the lower end's position, and the higher end's place in it.
-use Rattle.std.proofs.Common.{◌≡◌, ℕ, ◌+◌, ◌*◌, ◌<◌, get_or, ◌∙◌, ap₂, mul-le-mul, arith}
+use Rattle.std.proofs.Common.{◌≡◌, ℕ, ◌+◌, ◌*◌, ◌<◌, get_or, ◌∙◌, ap₂, arith}
 use Rattle.instance.specs.Sheet.{instance_of}
-use Rattle.instance.proofs.Sheets.{proper, edges_few, edge_there, nodes_is, cells_is, cells_few}
+use Rattle.instance.proofs.Sheets.{proper, edges_few, edge_there, cells_is, cells_few}
 use Rattle.rules.specs.Costs.{chosen_cell}
 use Rattle.rules.proofs.Places.{cell_lt}
 use Rattle.messages.proofs.IncumbentLaws.{cell_is}
@@ -31,19 +31,6 @@ offset_bounds-sheet-e c = omega (arith, c.requires, edges_few c.args.self.now.sh
 
 pub bounds-sheet-e : goal.bounds-sheet-e
 bounds-sheet-e c = omega (arith, c.requires, edges_few c.args.self.now.sheet.now)
-
-pub bounds-x-u : goal.bounds-x-u
-bounds-x-u c = omega (arith, c.low-u.ensures.1, c.args.self.now.labelling.size, nodes_is c.args.self.now.sheet.now)
-
-pub overflow_mul-result : goal.overflow_mul-result
-overflow_mul-result c =
-    omega (arith, mul-le-mul {n₁ = c.degree.result} {m₁ = c.from.result} {n₂ = 16} {m₂ = 255} c.degree.ensures.2 (omega (arith, c.from.ensures)))
-
-pub bounds-x-v : goal.bounds-x-v
-bounds-x-v c = omega (arith, c.high-v.ensures.1, c.args.self.now.labelling.size, nodes_is c.args.self.now.sheet.now)
-
-pub overflow_add-result : goal.overflow_add-result
-overflow_add-result c = omega (arith, small c)
 
 pub overflow_add-result-2 : goal.overflow_add-result-2
 overflow_add-result-2 c = omega (arith, small c)

@@ -2,7 +2,7 @@
 use Rattle.std.proofs.Common.{◌≡◌, ℕ, ◌+◌, ◌<◌, ◌≤◌, get_or, ◌+ℤ◌, nat_abs, sym, ap, ◌∙◌, arith, to_z-of_z, w64, SFits, to_z}
 use Rattle.integers.proofs.Bits.{same}
 use Rattle.instance.specs.Sheet.{instance_of}
-use Rattle.instance.proofs.Sheets.{proper, nodes_is, nodes_few, positions_is, positions_few, node_there}
+use Rattle.instance.proofs.Sheets.{proper, nodes_few, positions_is, positions_few, node_there}
 use Rattle.rules.specs.Costs.{chosen}
 use Rattle.messages.proofs.SumLaws.{added_none, added_fits, added_more, added_all}
 use Rattle.messages.proofs.IncumbentLaws.{place_is, place_in}
@@ -41,9 +41,6 @@ offset_bounds-sheet-u c = omega (arith, c.loop-u-test.true, nodes_few c.args.sel
 
 pub bounds-sheet-u : goal.bounds-sheet-u
 bounds-sheet-u c = omega (arith, c.loop-u-test.true, nodes_few c.args.self.now.sheet.now)
-
-pub bounds-self-u : goal.bounds-self-u
-bounds-self-u c = omega (arith, c.loop-u-test.true, c.args.self.now.labelling.size, nodes_is c.args.self.now.sheet.now)
 
 pub overflow_add-sheet : goal.overflow_add-sheet
 overflow_add-sheet c = omega (arith, inside (goal.at.overflow_add-sheet c).In-loop-u, positions_few c.args.self.now.sheet.now, c.from.ensures)

@@ -8,7 +8,7 @@ use Rattle.instance.specs.Sheet.{instance_of}
 use Rattle.rules.specs.Run.{message, legal_position}
 use Rattle.messages.specs.declared.records.Record.{Record}
 use Rattle.messages.specs.declared.state.State.{State}
-use Rattle.messages.specs.LabelMessage.{label_move, label_moved, label_given, PlaceAsked}
+use Rattle.messages.specs.LabelMessage.{label_move, label_moved, PlaceAsked}
 use Rattle.messages.specs.Records.{to_node, label_message, label_taken}
 use Rattle.messages.specs.State.{instance_in, limit_in}
 use Rattle.messages.proofs.LabelMessageLaws.{place_in}

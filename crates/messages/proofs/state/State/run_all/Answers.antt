@@ -1,10 +1,9 @@
 -- `run_all` meets its contract: the run so far and the rest of it are the whole run.
-use Rattle.std.proofs.Common.{◌≡◌, ℕ, [], get_or, ◌+◌, ◌*◌, ◌/◌, ◌<◌, ◌≤◌, List, Bor, length, take, drop, sym, refl, ap, ◌∙◌, arith}
+use Rattle.std.proofs.Common.{◌≡◌, ℕ, [], get_or, ◌+◌, ◌*◌, ◌/◌, ◌<◌, ◌≤◌, List, length, take, drop, sym, refl, ap, ◌∙◌, arith}
 use Rattle.instance.specs.Sheet.{instance_of}
 use Rattle.instance.proofs.Told.{numbered}
 use Rattle.rules.specs.Costs.{Buffers}
 use Rattle.rules.specs.Run.{step}
-use Rattle.messages.specs.declared.running.Run.{Run}
 use Rattle.messages.specs.declared.state.State.{State}
 use Rattle.messages.specs.State.{instance_in, limit_in, buffers_in}
 use Rattle.messages.specs.Step.{settle, settled, settled_by}
