@@ -48,9 +48,6 @@ pub record Masked (labels : List ℕ) (mask p : ℕ) : Type 0 where
   pub inside : p ≤ length labels
   pub has : (i : ℕ) → i < p → bit mask (get_or labels i 0 % 64) ≡ true
 
-pub masked_none : (labels : List ℕ) → Masked labels 0 0
-masked_none labels = record { inside = omega arith; has = λ i h. absurd (omega arith) }
-
 pub masked_more : {labels : List ℕ} {mask p : ℕ} → Masked labels mask p → p < length labels → Masked labels (bit_or mask (bit_at (get_or labels p 0))) (p + 1)
 masked_more {labels} {mask} {p} m h =
     let at : ℕ → ℕ = λ i. get_or labels i 0 % 64 in

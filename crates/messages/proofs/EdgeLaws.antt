@@ -42,10 +42,6 @@ position true w r j h = div-eq_of_lt-le w (omega arith) (omega arith)
 position false w r j h = mul-add-mod_self_right r w j ∙ mod-eq_of_lt h
 
 module _ {w h : ℕ} {l : List ℤ} (s : Shape w h l) where
-  -- the cell j of the row k, and the row, which begins at a
-  pub cell_in : (k j : ℕ) → k < h → j < w → k * w + j < length l
-  cell_in k j g q = omega (arith, row_in k h w g, s.size)
-
   pub row_end : {k a : ℕ} → k < h → a ≡ k * w → a + w ≤ length l
   row_end {k} {a} g e = omega (arith, row_in k h w g, s.size)
 

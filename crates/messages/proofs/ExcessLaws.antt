@@ -81,9 +81,6 @@ pub record Halving (half : ℕ) (l : List ℤ) (i w : ℕ) : Type 0 where
   pub inside : i ≤ length l
   pub told : w < 2 * half → (j : ℕ) → j < i → nat_abs (get_or l j (pos 0)) ≤ half
 
-pub halving_none : (half : ℕ) (l : List ℤ) → Halving half l 0 0
-halving_none half l = record { inside = omega arith; told = λ h j g. absurd (not-suc-le-zero g) }
-
 pub halving_more : {half : ℕ} {l : List ℤ} {i w : ℕ} (v : ℕ) → Halving half l i w → i < length l → (v < 2 * half → nat_abs (get_or l i (pos 0)) ≤ half)
     → Halving half l (i + 1) (bit_or w v)
 halving_more {half} {l} {i} {w} v r h e =
@@ -91,14 +88,6 @@ halving_more {half} {l} {i} {w} v r h e =
       inside = omega arith;
       told = λ g. below_more (λ j. nat_abs (get_or l j (pos 0)) ≤ half) i (r.told (omega (arith, or_le w v))) (e (omega (arith, or_le w v)));
     }
-
-pub halving_all : {half : ℕ} {l : List ℤ} {i w : ℕ} → Halving half l i w → length l ≤ i → ltb w (2 * half) ≡ true → Within half l
-halving_all {half} {l} {i} {w} r h t = past l (λ j g. r.told (ltb-true w (2 * half) t) j (omega arith))
-  where
-    past : (l : List ℤ) → ((j : ℕ) → j < length l → nat_abs (get_or l j (pos 0)) ≤ half) → Within half l
-    past [] f i = omega arith
-    past (x ∷ l) f zero = f zero (omega arith)
-    past (x ∷ l) f (suc i) = past l (λ j g. f (suc j) (omega arith)) i
 
 -- two halves add up to no more than the limit
 pub halves_fit : {half limit : ℕ} → 2 * half ≤ limit → (f : ℕ → ℤ) (l : List ℤ) → Within half l → ((k : ℕ) → nat_abs (f k) ≤ half) → every (within limit) (shifted f l) ≡ true

@@ -65,9 +65,6 @@ module _ (J : Instance) (x : List ℕ) where
   pub match_none : (n : ℕ) → MatchTurn n (replicate 256 true) 0
   match_none n = record { tested = tested_none ok_at n; labels = untaken_none J x }
 
-  pub untaken_long : {n : ℕ} {untaken : List Bool} {u : ℕ} → MatchTurn n untaken u → length untaken ≡ 256
-  untaken_long {u = u} t = ap length t.labels ∙ length-tabulate 256 (unused J x u)
-
   pub match_over : (u : ℕ) → J.degree u ≤ position x u → ok_at u ≡ false
   match_over u h = rw (le-ltb (position x u) (J.degree u) h)
 

@@ -12,17 +12,7 @@ use Rattle.rules.specs.Calls as calls
 use Rattle.rules.specs.Calls.{cost_limit, lent_refusal, told, report_of}
 use Rattle.messages.specs.Answers.{against}
 
--- the gap of a small bound and a small price fits
-pub gap_fits : (z p : ℤ) → nat_abs z ≤ 384 * cost_limit → nat_abs p ≤ 320_000_000 → SFits w64 (p -ℤ z)
-gap_fits z p h g = omega (linear, sub p z, abs p, abs z)
-
 -- ---- what is told
-
-pub against_over : (z p : ℤ) → lt_z p z ≡ true → calls.refused 14 ≡ against z p
-against_over z p h = let t : le_z z p ≡ false = by-test (le_z z p) (λ e. absurd (omega linear)) (λ e. e) in sym (if-false _ (calls.refused 14) t)
-
-pub against-kept : (z p : ℤ) → lt_z p z ≡ false → calls.kept z p (p -ℤ z) ≡ against z p
-against-kept z p h = let t : le_z z p ≡ true = by-test (le_z z p) (λ e. e) (λ e. absurd (omega linear)) in sym (if-true (calls.kept z p (p -ℤ z)) _ t)
 
 module _ (s : List ℕ) (b : Buffers) where
   abbrev K : Instance

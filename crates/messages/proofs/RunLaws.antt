@@ -127,14 +127,6 @@ module _ {s : List ℕ} {limit : ℕ} {l : List ℕ} {b₀ b : Buffers} {finishe
               ∙ sym (carry-refused I limit finished stuck b (record_of (drop at l)) (records (drop (at + 5) l)) p) ∙ split
           go (done c i) p q = absurd (n (ap (λ (z : Settled). z.refusal) q))
 
-      -- lengths stay
-      pub going_sized : Sized I b'
-      going_sized = go (step I limit b (record_of (drop at l))) (effect_later I proper limit b (kind_of (get_or (drop at l) 0 0)) (get_or (drop at l) 1 0) (get_or (drop at l) 2 0 + 256 * get_or (drop at l) 3 0) (get_or (drop at l) 4 0) g.good.sound) e
-        where
-          go : (o : Outcome) → Done I proper b o → settle b' k number ≡ settled b o → Sized I b'
-          go (refused m) d q = subst (Sized I) (sym (ap (λ (z : Settled). z.buffers) q)) g.good.sound.sized
-          go (done c i) d q = subst (Sized I) (sym (ap (λ (z : Settled). z.buffers) q)) d.0.sized
-
       pub going_few : k ≤ 1
       going_few = omega (arith, ap (λ (z : Settled). z.stuck) e, stuck_once g.good (kind_of (get_or (drop at l) 0 0)) (get_or (drop at l) 1 0) (get_or (drop at l) 2 0 + 256 * get_or (drop at l) 3 0) (get_or (drop at l) 4 0))
 
