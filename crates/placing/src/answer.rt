@@ -12,6 +12,7 @@ use crate::words::has;
 use instance::{Refusal, Sheet};
 
 // The labels below one.
+#[tactic(auto, using(integers::proofs::Words::one_shifted), unfolding(crate::specs::Words::below))]
 fn labels_below(label: u8) -> u64
     ensures { result ≡ below label }
 {
@@ -23,6 +24,7 @@ fn labels_below(label: u8) -> u64
 }
 
 // How many labels of a word are below one.
+#[tactic(auto, unfolding(crate::specs::Words::rank))]
 fn rank_of(word: u64, label: u8) -> u8
     requires { rank word label < 256 }
     ensures { result ≡ rank word label }

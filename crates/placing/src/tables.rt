@@ -27,6 +27,7 @@ struct Row {
 }
 
 // The word of labels below 64.
+#[tactic(auto, using(crate::proofs::Laying::word_more), unfolding(integers::specs::Words::word_of))]
 fn word_of(labels: &[u8]) -> u64
     requires { (k : ℕ) → k < length labels.now → entry labels.now k < 64 }
     ensures { result ≡ word_of (entry labels.now) (length labels.now) }
@@ -39,6 +40,7 @@ fn word_of(labels: &[u8]) -> u64
 }
 
 // The labels of one node. Labels rise, so 255 is the last.
+#[tactic(auto, using(crate::proofs::Laying::byte_is, crate::proofs::Laying::word_part))]
 fn row_of(labels: &[u8]) -> Row
     requires { Labels (entry labels.now) (length labels.now) }
     ensures { Worded (entry labels.now) (length labels.now) result.word result.own }

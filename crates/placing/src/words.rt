@@ -14,6 +14,7 @@ pub(crate) fn bit_of(l: u8) -> u64
 }
 
 // Whether the word has the label: none has one from 64 on.
+#[tactic(auto, using(integers::proofs::Words::bit_small), unfolding(integers::specs::Words::bit))]
 pub(crate) fn has(word: u64, l: u8) -> bool
     ensures { result ≡ bit word l }
 {

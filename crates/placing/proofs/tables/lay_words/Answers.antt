@@ -42,15 +42,6 @@ loop-u-preserved c =
     let w = subst (λ l. Worded (entry l) (length l) c.row_of-row.result.word c.row_of-row.result.own) c.labels_of.ensures c.row_of-row.ensures in
     (c.loop-u.invariant.0, laid_more (whole x) (node_there x c.loop-u-test.true) w c.loop-u.invariant.1)
 
--- all of them
-done : (t : After-loop-u) → t.loop-u.u ≡ t.args.sheet.now.nodes
-done t = omega (arith, t.loop-u.auto.u-end, t.loop-u-test.false)
-
-pub returns : goal.returns
-returns c =
-    let (e, v) = c.loop-u.invariant in
-    (e, subst (λ n. Laid (instance_of c.args.sheet.now.bytes.now) n c.loop-u.nodes.1.0 c.loop-u.nodes.1.1.0) (done (goal.at.returns c).After-loop-u) v.laid)
-
 pub invariant_of-nodes : goal.invariant_of-nodes
 invariant_of-nodes c =
     let (e, v) = c.loop-u.invariant in record { few = omega (arith, e, nodes_few c.args.sheet.now); fit = v.laid.fit }

@@ -12,13 +12,6 @@ use Rattle.placing.proofs.seats.Seats.place_all.Goals.{In-loop-u}
 few : (t : In-loop-u) → t.loop-u.u < 64
 few t = omega (arith, t.loop-u-test.true, t.args.self.now.nodes.now.few)
 
-pub loop-u-init : goal.loop-u-init
-loop-u-init c = (refl, record { seat = λ u g. absurd (omega arith); later = λ u _. c.requires u; vacant = λ u _ g _. c.requires u g })
-
-pub loop-u-preserved-then-vanishes : goal.loop-u-preserved-then-vanishes
-loop-u-preserved-then-vanishes c =
-    let v = c.loop-u.invariant in (v.0, seated_own c.loop-u.self.linked v.1 (few (goal.at.loop-u-preserved-then-vanishes c).In-loop-u) c.if-vanishes.true)
-
 pub chain-requires : goal.chain-requires
 chain-requires c =
     let g = few (goal.at.chain-requires c).In-loop-u in
@@ -39,9 +32,3 @@ loop-u-preserved c =
       subst (λ n. Seated n.own 0 (c.loop-u.u + 1) c.chain.new.self.taken) (sym s.same)
           (seated_more c.loop-u.self.linked v.1 (few (goal.at.loop-u-preserved c).In-loop-u) c.if-vanishes.false s.placed),
     )
-
-pub returns-clause-answer : goal.returns-clause-answer
-returns-clause-answer c =
-    let v = c.loop-u.invariant in
-    let e : c.loop-u.u ≡ c.args.self.now.nodes.now.count = omega (arith, c.loop-u-test.false, c.loop-u.auto.u-end) in
-    subst (λ m. Seated c.args.self.now.nodes.now.own 0 m c.loop-u.self.taken) e (subst (λ n. Seated n.own 0 c.loop-u.u c.loop-u.self.taken) v.0 v.1)

@@ -62,9 +62,6 @@ pub loop-layer-preserved : goal.loop-layer-preserved
 loop-layer-preserved c =
     let t = (goal.at.loop-layer-preserved c).After-lowest-l in rw c.from-from.ensures (turn_same (head t).loop-layer.invariant.0 (head t).loop-layer.invariant.1 (fits t) (some t) (l t) (low t) (rw c.from-from.ensures at c.if-met-ne0.false) c.if-left-eq0.false)
 
-pub returns : goal.returns
-returns c = let h = c.loop-layer.invariant in searching_ended h.0 (queue_empty h.1 c.loop-layer-test.false)
-
 pub loop-layer-smaller-then-left-eq0 : goal.loop-layer-smaller-then-left-eq0
 loop-layer-smaller-then-left-eq0 c = omega (arith, few (goal.at.loop-layer-smaller-then-left-eq0 c).After-lowest-l)
 

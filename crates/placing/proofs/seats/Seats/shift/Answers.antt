@@ -13,9 +13,6 @@ use Rattle.placing.proofs.seats.Seats.shift.Goals.{After-from-holder}
 held : (t : After-from-holder) → t.from-holder.result ≡ entry t.loop-i.self.holders (entry t.args.steps.now.by (t.loop-i.i - 1))
 held t = t.from-holder.ensures ∙ ap (entry t.loop-i.self.holders) t.from.ensures
 
-pub loop-i-init : goal.loop-i-init
-loop-i-init c = (refl, λ start before a m. moving_none a m c.args.self.now.linked)
-
 pub bounds-self-from : goal.bounds-self-from
 bounds-self-from c =
     let (start, before, a, m) = c.requires in
