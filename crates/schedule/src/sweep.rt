@@ -20,6 +20,7 @@ pub(crate) enum Direction {
     Backward = 1,
 }
 
+#[tactic(auto, unfolding(crate::specs::Writing::direction_of))]
 fn direction_of(number: u8) -> Option<Direction>
     ensures { result ≡ direction_of number }
 {
@@ -114,6 +115,7 @@ fn length_of(sheet: &Sheet) -> usize
 }
 
 // How many bytes to lend for a sweep: none for a sheet that is refused.
+#[tactic(auto, using(crate::proofs::Written::room_is, crate::proofs::Written::room_none, instance::proofs::Told::numbered))]
 pub fn sweep_length(sheet: &[u8]) -> usize
     ensures { result ≡ sweep_room sheet.now }
 {

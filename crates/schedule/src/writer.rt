@@ -25,6 +25,7 @@ impl Writer<'_> {
     ghost use Rattle.schedule.specs.Writing.{Wrote, Room, kind_number};
 
     // Writes one record, of five bytes.
+    #[tactic(auto, using(crate::proofs::NumberLaws::record_bytes, crate::proofs::WritingLaws::five), unfolding(crate::specs::Sweep::bytes))]
     pub(crate) fn put(&mut self, kind: Kind, node: u8, index: u16, share: u8)
         requires { Room self.old 1 }
         ensures { Wrote self.old (entry (kind_number kind) node index share ∷ []) self.new }

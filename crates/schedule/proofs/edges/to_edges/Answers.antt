@@ -13,9 +13,6 @@ pub loop-j-init : goal.loop-j-init
 unfolding to_edges
 loop-j-init c = wrote_none c.args.w.now
 
-pub overflow_cast-share : goal.overflow_cast-share
-overflow_cast-share c = omega (arith, c.row-row.ensures.few, c.requires.u_bound)
-
 pub put-requires : goal.put-requires
 put-requires c =
     let row = c.row-row.result.now in

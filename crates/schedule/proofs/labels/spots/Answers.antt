@@ -7,9 +7,6 @@ use Rattle.schedule.specs.Writing.{Marked}
 use Rattle.schedule.proofs.SpotLaws.{spots_none, spots_more}
 use Rattle.schedule.proofs.labels.spots.Goals as goal
 
-pub loop-u-init : goal.loop-u-init
-loop-u-init c = spots_none (instance_of c.args.sheet.now.bytes.now).degree
-
 pub offset_bounds-sheet-u : goal.offset_bounds-sheet-u
 offset_bounds-sheet-u c = omega (arith, c.loop-u-test.true, nodes_few c.args.sheet.now)
 

@@ -24,12 +24,3 @@ overflow_add-past c = let e = end_few c.args.end in let x = c.args.sheet.now in 
 
 pub slice_bounds-of-end : goal.slice_bounds-of-end
 slice_bounds-of-end c = let e = end_few c.args.end in omega (arith, inside c.args.sheet.now)
-
-pub returns : goal.returns
-returns c =
-    let a = c.args in
-    let x = a.sheet.now in
-    let e = (end_few a.end).0 in
-    let past : (p : ℕ) → p + 2 * x.edges - p ≡ 2 * (instance_of x.bytes.now).edge_count = λ p. omega (arith, edges_is x) in
-    c.of.ensures ∙ ap₂ (λ (k p : ℕ). index_of (take (k + p + 2 * x.edges - (k + p)) (drop (k + p) x.bytes.now)) 2) x.placed.1 e
-    ∙ ap (λ (m : ℕ). index_of (take m (drop (ends_at x.bytes.now + end_place a.end) x.bytes.now)) 2) (past (ends_at x.bytes.now + end_place a.end))
