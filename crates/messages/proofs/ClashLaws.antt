@@ -1,6 +1,6 @@
 -- Where a label meets an unusable cell among the labels of a node, which rise, and what a mask of them says.
 -- Assumes nothing.
-use Rattle.std.proofs.Common.{◌≡◌, ℕ, ◌+◌, ◌%◌, ◌^◌, ◌<◌, ◌≤◌, true, false, not, eqb, ltb, None, Some, List, length, get_or, sym, ap, ◌∙◌, arith, rules, ltb-false, ltb-true, ne_eqb, eqb-true}
+use Rattle.std.proofs.Common.{◌≡◌, ℕ, ◌+◌, ◌%◌, ◌^◌, ◌<◌, ◌≤◌, true, false, not, eqb, ltb, Option, None, Some, List, length, get_or, sym, ap, ◌∙◌, arith, rules, ltb-false, ltb-true, ne_eqb, eqb-true}
 use borrow.Author.Tests.{eqb-false}
 use lib.Bits.{bit_and, bit_or}
 use Rattle.integers.specs.Words.{bit}
@@ -9,6 +9,8 @@ use Rattle.integers.proofs.Counting.{climbs}
 use Rattle.integers.proofs.Words.{bit_or_lem, bit_and_lem, bit_own, some_bit}
 use Rattle.instance.specs.Instance.{usable}
 use Rattle.instance.proofs.UsableCells.{distinct_usable}
+use Rattle.std.specs.List.{AllWithin, HoldsAt}
+use Rattle.std.specs.Option.{MatchOption}
 use Rattle.messages.specs.Clash.{Rising, Skips, bit_at, Masks}
 
 -- ---- the cells of a label
@@ -36,6 +38,13 @@ module _ {labels : List ℕ} {label : ℕ} where
       apart p k n e =
           by-test (ltb p at) (λ t. let s = climbs (λ i. get_or labels i 0) (length labels) r p at (ltb-true p at t) h in omega arith)
           (λ t. let l : at ≤ p = ltb-false p at t in let s = climbs (λ i. get_or labels i 0) (length labels) r at p (omega arith) k in omega arith)
+
+  -- what `position` finds
+  pub skips_found : (r : Option ℕ) → Rising labels
+      → MatchOption r (AllWithin (λ k. usable label k ≡ true) labels 0 (length labels)) (λ i. (i < length labels) × HoldsAt (λ k. usable label k ≡ false) labels i × AllWithin (λ k. usable label k ≡ true) labels 0 i)
+      → Skips labels label r
+  skips_found None e h = skips_none (λ p k. h p 0 (omega arith) k)
+  skips_found (Some at) e h = skips_here e h.0 (h.1 0)
 
 -- with none it is as if the place past all labels were skipped
 pub skips_past : {labels : List ℕ} {label : ℕ} → Skips labels label None → (p : ℕ) → p < length labels → usable label (get_or labels p 0) ≡ not (eqb p (length labels))

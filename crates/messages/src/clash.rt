@@ -23,18 +23,13 @@ pub(crate) fn mask_of(labels: &[u8]) -> u64
 }
 
 // The place at which `label` meets an unusable cell, if there is one, by looking at each.
-#[tactic(auto, using(crate::proofs::ClashLaws::skips_here))]
 fn place_of(labels: &[u8], label: u8) -> Option<usize>
     requires { Rising labels.now }
     ensures { Skips labels.now label result }
 {
-    // Kept: `position` is the same in one line, and the report then takes a tenth longer.
-    for (p, other) in labels.iter().enumerate() {
-        if !usable(usize::from(label), usize::from(*other)) {
-            return Some(p);
-        }
-    }
-    None
+    labels
+        .iter()
+        .position(|other| !usable(usize::from(label), usize::from(*other)))
 }
 
 // The same by the labels' mask: most labels are none of the other end's, and their bit says so at once.
