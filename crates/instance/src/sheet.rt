@@ -95,7 +95,7 @@ impl<'a> Sheet<'a> {
     }
 
     // A price among those that stand from `section` on.
-    fn price_in(&self, section: usize, i: usize) -> i64
+    pub fn price_in(&self, section: usize, i: usize) -> i64
         requires { section + 4 * i + 4 ≤ length self.now.bytes.now }
         ensures { result ≡ price_at self.now.bytes.now (section + 4 * i) }
     {

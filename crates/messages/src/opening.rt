@@ -29,9 +29,9 @@ pub fn open(
     if !lengths_agree(&sheet, lent) {
         return Err(Refusal::BufferLength);
     }
-    fill_prices(sheet.bytes, sheet.prices, nodes);
+    fill_prices(&sheet, sheet.prices, nodes);
     labels.fill(0);
-    fill_prices(sheet.bytes, sheet.edge_prices, edges);
+    fill_prices(&sheet, sheet.edge_prices, edges);
     incumbent.fill(255);
     Ok(())
 }

@@ -11,4 +11,4 @@ loop-i-init c = fill_none _ _
 pub loop-i-preserved : goal.loop-i-preserved
 loop-i-preserved c =
     let a = c.args in
-    rw (same c.price.result c.price.type_inv ∙ c.price.ensures) (fill_more (λ k. price_at a.sheet.now (a.at + 4 * k)) (pos 0) c.loop-i.invariant (omega arith))
+    rw (same c.price_in.result c.price_in.type_inv ∙ c.price_in.ensures) (fill_more (λ k. price_at a.sheet.now.bytes.now (a.at + 4 * k)) (pos 0) c.loop-i.invariant (omega arith))
