@@ -14,6 +14,7 @@ use messages::{Answer, Report};
 const ROOM: usize = 256;
 
 // Kept: any number, as `refusal_text` takes it; a `Refusal` would ask more of callers.
+#[tactic(auto, using(crate::proofs::DecimalLaws::decimal_is, crate::proofs::WritingLaws::wrote_as), unfolding(crate::specs::Lines::refused_line))]
 fn refused_line(text: &mut Text, number: u8)
     requires { Room text.old 32 }
     ensures { Wrote text.old (refused_line number) text.new }
@@ -51,6 +52,7 @@ fn bound_lines(text: &mut Text, bound: i64)
 }
 
 // The sixth line of a run that stopped at a record.
+#[tactic(auto, using(crate::proofs::RefusalLaws::stopped_line, crate::proofs::WritingLaws::wrote_as, crate::proofs::WritingLaws::wrote_none), unfolding(crate::specs::Lines::stop_line))]
 fn stop_line(text: &mut Text, refusal: Option<Refusal>)
     requires { Room text.old 32 }
     ensures { Wrote text.old (stop_line (number_of refusal)) text.new }
@@ -74,6 +76,7 @@ fn told_text(text: &mut Text, answer: Answer, report: Report)
 }
 
 // The text of a report that was made of a run's last buffers.
+#[tactic(auto, using(crate::proofs::WritingLaws::wrote_as), unfolding(crate::specs::Lines::report_text))]
 fn report_text(text: &mut Text, answer: Answer, report: Result<Report, Refusal>)
     requires { Room text.old 256 }
     ensures { Wrote text.old (report_text answer.done answer.stuck (number_of answer.refusal) (reported_as report)) text.new }
@@ -93,6 +96,7 @@ fn at_record(refusal: Refusal) -> bool
 }
 
 // The text of a run and of the report after it.
+#[tactic(auto, using(crate::proofs::WritingLaws::wrote_as), unfolding(crate::specs::Lines::at_records, crate::specs::Lines::text_of))]
 fn run_text(text: &mut Text, answer: Answer, report: Result<Report, Refusal>)
     requires { Room text.old 256 }
     ensures { Wrote text.old (text_of answer.done answer.stuck (number_of answer.refusal) (reported_as report)) text.new }

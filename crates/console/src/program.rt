@@ -59,6 +59,7 @@ fn answer_of(sheet: &Sheet, records: &[u8], out: &mut [u8]) -> usize
 
 // Puts what the program prints at the start of out, and answers how many bytes that is; in a buffer of fewer than 256
 // bytes nothing, and 0.
+#[tactic(auto, using(crate::proofs::ProgramLaws::printed_refused, crate::proofs::WritingLaws::out_as))]
 pub fn answer(sheet: &[u8], records: &[u8], out: &mut [u8]) -> usize
     ensures { outputs out.new result ≡ output_of (printed sheet.now records.now) out.old }
 {

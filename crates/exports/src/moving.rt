@@ -27,6 +27,7 @@ pub extern "C" fn cirbaldu_open(
 
 // Runs a list of records; answers the refusal. `counts`, of two places, has the records done and the roundings stuck.
 #[unsafe(no_mangle)]
+#[tactic(auto, using(crate::proofs::AnswerLaws::ran_by, crate::proofs::AnswerLaws::ran_ill))]
 pub extern "C" fn cirbaldu_run(
     sheet: &[u8],
     records: &[u8],
@@ -51,6 +52,7 @@ pub extern "C" fn cirbaldu_run(
 }
 
 // The values of a report.
+#[tactic(auto, unfolding(crate::specs::Moving::values_in))]
 fn store_report(report: Report, values: &mut [i64])
     requires { length values.old ≡ 4 }
     ensures { values.new ≡ values_in values.old (reported_as (Ok report)) }

@@ -28,6 +28,7 @@ fn store_sheet(sheet: &Sheet, answer: &mut [u64])
 }
 
 // The numbers of a refused sheet: the refusal, and 0 in all other places.
+#[tactic(auto, unfolding(crate::specs::Reading::counts_of, crate::specs::Reading::numbers_of, instance::specs::Layout::refused_by))]
 fn store_refusal(refusal: Refusal, answer: &mut [u64])
     requires { length answer.old ≡ 326 }
     ensures { answer.new ≡ numbers_of (refused_by (number refusal)) }
@@ -39,6 +40,7 @@ fn store_refusal(refusal: Refusal, answer: &mut [u64])
 // Reads a sheet; answers the refusal. `answer`, of 326 places, has the refusal, n, L, E, N, M, the 64 node starts and the
 // 256 edge starts.
 #[unsafe(no_mangle)]
+#[tactic(auto, using(crate::proofs::AnswerLaws::read_by, crate::proofs::AnswerLaws::read_ill, instance::proofs::LaidOut::refused_by_lem, instance::proofs::Told::numbered))]
 pub extern "C" fn cirbaldu_read(sheet: &[u8], answer: &mut [u64]) -> u8
     ensures { answered result answer.new ≡ read_in sheet.now answer.old }
 {
@@ -72,6 +74,7 @@ fn edge_span(sheet: &[u8], edge: usize) -> Result<[usize; 2], Refusal>
 // Shows an edge; answers the refusal. `span`, of two places, has where its prices begin in the sheet and how many bytes
 // they take: 0 and 0 for an edge that is not shown.
 #[unsafe(no_mangle)]
+#[tactic(auto, using(crate::proofs::ShowLaws::shown_by, crate::proofs::ShowLaws::shown_ill, crate::proofs::ShowLaws::span_or))]
 pub extern "C" fn cirbaldu_edge(sheet: &[u8], edge: usize, span: &mut [u64]) -> u8
     ensures { answered result span.new ≡ shown_in sheet.now edge span.old }
 {
