@@ -7,7 +7,7 @@ ghost use Rattle.exports.specs.Stored.{answered};
 ghost use Rattle.messages.specs.Answers.{reported_as};
 ghost use Rattle.exports.specs.Moving.{outcome, ran_in, values_in, reported_in};
 
-use crate::storing::{NONE, code, copy, refuse_length, store_costs};
+use crate::storing::{NONE, code, copy, refuse_length};
 use instance::Sheet;
 use messages::{Report, open, report, run};
 
@@ -57,10 +57,11 @@ fn store_report(report: Report, values: &mut [i64])
     requires { length values.old ≡ 4 }
     ensures { values.new ≡ values_in values.old (reported_as (Ok report)) }
 {
-    match report {
-        Report::Bound(bound) => store_costs(0, bound, 0, 0, values),
-        Report::Kept(bound, cost, gap) => store_costs(1, bound, cost, gap, values),
-    }
+    let numbers = match report {
+        Report::Bound(bound) => [0, bound, 0, 0],
+        Report::Kept(bound, cost, gap) => [1, bound, cost, gap],
+    };
+    values.copy_from_slice(&numbers);
 }
 
 // Reports; answers the refusal. `values`, of four places, has 1 if a matching is kept, the bound, its cost and the gap, 0

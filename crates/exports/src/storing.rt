@@ -1,6 +1,6 @@
 // Storing numbers in a lent buffer, and answering a refusal by its number.
 // Kept: C is answered a refusal's number.
-ghost use Rattle.std.specs.Prelude.{◌≡◌, [], ◌∷◌, length};
+ghost use Rattle.std.specs.Prelude.{◌≡◌, length};
 ghost use Rattle.instance.specs.Refusal.{refused_in};
 ghost use Rattle.exports.specs.Stored.{unlent};
 
@@ -38,12 +38,4 @@ pub(crate) fn copy(values: &[usize], lent: &mut [u64])
         // Kept: a usize has 64 bits, and there is no `From`; `try_from` would add a case that cannot happen.
         *place = values[i] as u64;
     }
-}
-
-// Four costs: 1 if a matching is kept, the bound, its cost, the gap.
-pub(crate) fn store_costs(kept: i64, bound: i64, cost: i64, gap: i64, lent: &mut [i64])
-    requires { length lent.old ≡ 4 }
-    ensures { lent.new ≡ (kept ∷ bound ∷ cost ∷ gap ∷ []) }
-{
-    lent.copy_from_slice(&[kept, bound, cost, gap]);
 }

@@ -1,6 +1,6 @@
 -- One test for many costs: each gives a number that reaches the half of the width exactly if the cost passes the limit, and these are joined by their bits.
 -- Assumes nothing.
-use Rattle.std.proofs.Common.{◌≡◌, ℕ, zero, suc, ◌+◌, ◌-◌, ◌*◌, ◌%◌, ◌^◌, ◌<◌, ◌≤◌, Bool, true, ◌&&◌, ltb, List, [], ◌∷◌, length, get_or, ℤ, pos, negsuc, ◌+ℤ◌, nat_abs, sym, refl, ap, ◌∙◌, ap₂, not-suc-le-zero, add-one, arith, w64, SFits, of_z, below_more, ltb-true, lt-ltb}
+use Rattle.std.proofs.Common.{◌≡◌, ℕ, ◌+◌, ◌-◌, ◌*◌, ◌%◌, ◌^◌, ◌<◌, ◌≤◌, Bool, true, ◌&&◌, ltb, List, length, get_or, ℤ, pos, negsuc, ◌+ℤ◌, nat_abs, sym, refl, ap, ◌∙◌, ap₂, add-one, arith, w64, SFits, of_z, below_more, ltb-true, lt-ltb}
 use lib.Bits.{bit_or, or_lt, or_add_and, and_le_l, and_le_r}
 use Rattle.integers.specs.Sum.{Within}
 use Rattle.integers.specs.Places.{every}

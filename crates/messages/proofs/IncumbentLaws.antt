@@ -5,7 +5,7 @@ use lib.Signed.{lt_z}
 use Rattle.integers.specs.Places.{every, tabulate, total}
 use Rattle.integers.specs.Checks.{below}
 use Rattle.integers.proofs.Parts.{linear, add}
-use Rattle.integers.proofs.Places.{if-true, if-false, length-tabulate, get_d_tabulate}
+use Rattle.integers.proofs.Places.{if-true, if-false, get_d_tabulate}
 use Rattle.integers.proofs.Totals.{some_zero}
 use Rattle.integers.proofs.Checks.{Tested, tested_none, tested_more, tested_all, below_fails}
 use Rattle.instance.specs.Instance.{Instance, exclusive, cell}

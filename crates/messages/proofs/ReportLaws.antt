@@ -1,9 +1,7 @@
 -- A report's laws: the gap fits, and what is told, case by case.
 -- Assumes nothing.
-use Rattle.std.proofs.Common.{◌≡◌, ℕ, ◌*◌, ◌≤◌, true, false, cond, eqb, List, ℤ, ◌-ℤ◌, nat_abs, sym, ap, ◌∙◌, w64, SFits, ne_eqb}
-use lib.Signed.{le_z, lt_z}
-use Rattle.integers.proofs.Parts.{linear, abs, sub}
-use Rattle.integers.proofs.Places.{by-test, if-true, if-false}
+use Rattle.std.proofs.Common.{◌≡◌, ℕ, true, false, cond, eqb, List, sym, ap, ◌∙◌, ne_eqb}
+use Rattle.integers.proofs.Places.{if-true, if-false}
 use Rattle.instance.specs.Instance.{Instance}
 use Rattle.instance.specs.Sheet.{instance_of}
 use Rattle.rules.specs.Costs.{Buffers, none_kept}

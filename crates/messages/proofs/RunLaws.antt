@@ -1,18 +1,18 @@
 -- A run as its loop goes through it: some records are done, and the rest from here is the rest of the whole run.
 -- Assumes nothing.
-use Rattle.std.proofs.Common.{◌≡◌, ℕ, suc, ◌+◌, ◌*◌, ◌%◌, ◌<◌, ◌≤◌, cond, eqb, List, [], ◌∷◌, length, get_or, take, get_or-take, lit<, drop, sym, refl, ap, ◌∙◌, subst, ap₂, inl, inr, arith, length-drop, drop-drop, eq-eqb, eqb-true, ne_eqb}
+use Rattle.std.proofs.Common.{◌≡◌, ℕ, suc, ◌+◌, ◌*◌, ◌%◌, ◌<◌, ◌≤◌, cond, eqb, List, [], ◌∷◌, length, get_or, take, get_or-take, lit<, drop, sym, refl, ap, ◌∙◌, ap₂, inl, inr, arith, length-drop, drop-drop, eq-eqb, eqb-true, ne_eqb}
 use lib.Seq.{drop-length}
 use Rattle.instance.specs.Instance.{Instance}
 use Rattle.instance.specs.Sheet.{instance_of}
 use Rattle.instance.specs.Readable.{Proper}
 use Rattle.instance.proofs.Readable as sheet
-use Rattle.rules.specs.Costs.{Buffers, Sized}
+use Rattle.rules.specs.Costs.{Buffers}
 use Rattle.rules.specs.Run.{Record, Outcome, refused, done, Ran, kind_of, records, step, run, run_list}
 use Rattle.rules.specs.Calls.{lent_refusal, run_refusal, run_of}
 use Rattle.rules.proofs.Calls.{run_refusal_by}
 use borrow.Author.Tests.{eqb-false}
 use Rattle.integers.proofs.Places.{by-test, if-true, if-false}
-use Rattle.rules.proofs.Run.{Done, effect_later, Numbered, effect_number}
+use Rattle.rules.proofs.Run.{Numbered, effect_number}
 use Rattle.rules.proofs.Loops.{carry, carry_start, carry-done, carry-refused, carry_end, records_next}
 use Rattle.messages.specs.Step.{Settled, settle, settled, settled_as, settled_by}
 use Rattle.messages.specs.Turn.{Good}

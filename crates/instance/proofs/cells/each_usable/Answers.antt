@@ -1,5 +1,5 @@
 -- `each_usable` meets its contract: each edge is tested, and whether all passed is kept.
-use Rattle.std.proofs.Common.{ℕ, not, ap, ◌∙◌, arith}
+use Rattle.std.proofs.Common.{ℕ, not, ap, ◌∙◌}
 use Rattle.integers.specs.Checks.{below}
 use Rattle.integers.proofs.Checks.{folded_none, folded_more, folded_all}
 use Rattle.instance.specs.Sheet.{none_usable, usable_ok}

@@ -1,7 +1,7 @@
 -- `prices_ok` meets its contract: each price is tested, and whether all passed is kept.
 use Rattle.std.proofs.Common.{ℕ, ap, ◌∙◌, w32, to_z}
 use Rattle.integers.specs.Checks.{within}
-use Rattle.integers.proofs.Checks.{folded_none, folded_more, folded_all}
+use Rattle.integers.proofs.Checks.{folded_none, folded_more}
 use Rattle.instance.proofs.sections.prices_ok.Goals as goal
 
 pub loop-i-init : goal.loop-i-init

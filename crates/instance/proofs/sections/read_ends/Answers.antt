@@ -1,7 +1,7 @@
 -- `read_ends` meets its contract, by the laws of its turns.
-use Rattle.std.proofs.Common.{◌≡◌, ℕ, ◌+◌, ◌*◌, ◌<◌, ◌≤◌, arith}
+use Rattle.std.proofs.Common.{◌≡◌, ℕ, ◌+◌, ◌*◌, ◌<◌, arith}
 use Rattle.instance.specs.Bytes.{byte}
-use Rattle.instance.proofs.Turns.{ends_none, ends_bad, end_level, end_past, end_falls, size_small, ends_more, ends_done}
+use Rattle.instance.proofs.Turns.{ends_none, ends_bad, end_level, end_past, end_falls, ends_more, ends_done}
 use Rattle.instance.proofs.sections.read_ends.Goals as goal
 use Rattle.instance.proofs.sections.read_ends.Goals.{After-from-in-loop-e, After-from-v, At-loop-e, Start}
 

@@ -1,10 +1,9 @@
 -- `lay_words` meets its contract: the nodes so far are laid out.
 -- Assumes nothing.
-use Rattle.std.proofs.Common.{◌≡◌, ◌<◌, length, refl, sym, subst, arith}
+use Rattle.std.proofs.Common.{◌<◌, length, refl, sym, subst, arith}
 use Rattle.instance.specs.declared.sheet.Sheet.{Sheet}
-use Rattle.instance.specs.Sheet.{instance_of}
 use Rattle.instance.proofs.Sheets.{whole, nodes_few, node_there}
-use Rattle.placing.specs.Words.{entry, Laid}
+use Rattle.placing.specs.Words.{entry}
 use Rattle.placing.specs.Labels.{Labels, Worded}
 use Rattle.placing.proofs.Linking.{words_none}
 use Rattle.placing.proofs.Laying.{laid_none, laid_more, bytes_labels}

@@ -1,10 +1,9 @@
 -- `spots` meets its contract: one node after another.
 use Rattle.std.proofs.Common.{ℕ, get_or, subst, arith}
 use Rattle.instance.specs.Instance.{first}
-use Rattle.instance.specs.Sheet.{instance_of}
 use Rattle.instance.proofs.Sheets.{start_is, row_here, nodes_few, positions_few}
 use Rattle.schedule.specs.Writing.{Marked}
-use Rattle.schedule.proofs.SpotLaws.{spots_none, spots_more}
+use Rattle.schedule.proofs.SpotLaws.{spots_more}
 use Rattle.schedule.proofs.labels.spots.Goals as goal
 
 pub offset_bounds-sheet-u : goal.offset_bounds-sheet-u

@@ -1,12 +1,10 @@
 -- `edges_by` meets its contract: every second byte of the ends.
-use Rattle.std.proofs.Common.{◌≡◌, ℕ, ◌+◌, ◌-◌, ◌*◌, ◌≤◌, take, drop, length, ap, ap₂, ◌∙◌, arith}
+use Rattle.std.proofs.Common.{◌+◌, ◌*◌, ◌≤◌, length, arith}
 use Rattle.instance.specs.declared.sheet.Sheet.{Sheet}
 use Rattle.instance.specs.Instance.{first}
-use Rattle.instance.specs.Sheet.{instance_of, ends_at}
+use Rattle.instance.specs.Sheet.{instance_of}
 use Rattle.instance.proofs.Sheets.{whole, edges_is, edges_few, ends_few}
-use Rattle.index.specs.Index.{index_of}
 use Rattle.schedule.proofs.NumberLaws.{end_few}
-use Rattle.schedule.specs.Writing.{end_place}
 use Rattle.schedule.proofs.sweep.edges_by.Goals as goal
 
 inside : (x : Sheet) → x.ends + 1 + 2 * x.edges ≤ length x.bytes.now

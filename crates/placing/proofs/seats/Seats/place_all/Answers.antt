@@ -1,10 +1,10 @@
 -- `place_all` meets its contract: the nodes below u are seated.
 use Prim.Native.Nat.{◌+◌, ◌<◌}
-use mathlib.Core.Path.{◌≡◌, refl, sym, ap, ◌∙◌, subst}
+use mathlib.Core.Path.{sym, ap, ◌∙◌, subst}
 use native.Mathlib.Omega.{arith}
 use Rattle.integers.proofs.Words.{bit_zero}
 use Rattle.placing.specs.Words.{Seated, Blocked, rows_of, caught}
-use Rattle.placing.proofs.Seating.{seated_own, seated_unplaced, seated_more, seated_blocked}
+use Rattle.placing.proofs.Seating.{seated_unplaced, seated_more, seated_blocked}
 use Rattle.placing.proofs.seats.Seats.place_all.Goals as goal
 use Rattle.placing.proofs.seats.Seats.place_all.Goals.{In-loop-u}
 

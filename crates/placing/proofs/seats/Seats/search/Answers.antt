@@ -9,7 +9,7 @@ use lib.ListN.{set}
 use Rattle.integers.specs.Words.{bit, Words}
 use Rattle.integers.proofs.Places.{left_true}
 use Rattle.placing.specs.Words.{Met}
-use Rattle.placing.proofs.Searching.{queue, newly, layers_none, in_layer, queue_empty, searching_none, searching_met, searching_ended, turn_small, turn_few, turn_same, turn_next, turn_last}
+use Rattle.placing.proofs.Searching.{queue, newly, layers_none, in_layer, searching_none, searching_met, turn_small, turn_few, turn_same, turn_next, turn_last}
 use Rattle.placing.proofs.seats.Seats.search.Goals as goal
 use Rattle.placing.proofs.seats.Seats.search.Goals.{After-lowest-l, At-loop-layer}
 

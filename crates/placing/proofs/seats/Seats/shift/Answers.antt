@@ -1,11 +1,11 @@
 -- `shift` meets its contract: each turn is one of `Moving`.
 use Prim.Native.Nat.{ℕ, ◌-◌}
-use mathlib.Core.Path.{◌≡◌, refl, sym, ap, ap₂, ◌∙◌, subst}
+use mathlib.Core.Path.{◌≡◌, sym, ap, ap₂, ◌∙◌, subst}
 use mathlib.Core.List.{List}
 use native.Mathlib.Omega.{arith}
 use lib.ListN.{set}
 use Rattle.placing.specs.Words.{entry, Linked}
-use Rattle.placing.proofs.Moving.{moving_none, moving_small, moving_past, moving_more, moving_done, from_small, holder_few, holder_has, still_free, left_unplaced, root_has}
+use Rattle.placing.proofs.Moving.{moving_small, moving_past, moving_more, moving_done, from_small, holder_few, holder_has, still_free, left_unplaced, root_has}
 use Rattle.placing.proofs.seats.Seats.shift.Goals as goal
 use Rattle.placing.proofs.seats.Seats.shift.Goals.{After-from-holder}
 
