@@ -1,5 +1,5 @@
 // The text of a run and of the report after it.
-ghost use Rattle.std.specs.Prelude.{◌≡◌, ◌+◌, ◌≤◌, length};
+ghost use Rattle.std.specs.Prelude.{◌≡◌, ◌+◌, ◌≤◌};
 ghost use Rattle.instance.specs.Refusal.{number, number_of};
 ghost use Rattle.messages.specs.Answers.{reported_as};
 ghost use Rattle.console.specs.Lines.{refused_line, count_lines, kept_lines, bound_lines, at_records, stop_line, report_text, text_of};
@@ -76,6 +76,7 @@ fn told_text(text: &mut Text, answer: Answer, report: Report)
 }
 
 // The text of a report that was made of a run's last buffers.
+// Kept: what a run and the report after it answered, one by one, as the two calls give them.
 #[tactic(auto, using(crate::proofs::WritingLaws::wrote_as), unfolding(crate::specs::Lines::report_text))]
 fn report_text(text: &mut Text, answer: Answer, report: Result<Report, Refusal>)
     requires { Room text.old 256 }

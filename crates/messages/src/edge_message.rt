@@ -19,6 +19,7 @@ use crate::rows::{
 use crate::share::Share;
 
 // What the least of a position gives down to the least of all, turned round, and 0 if it has no usable cell.
+// Kept: that costs are within the limit is asked for here, in `turn_all` and in `excess_with`, as in `share_of`.
 #[tactic(auto, using(integers::proofs::Bits::answer, integers::proofs::Share::share_back), unfolding(crate::specs::EdgeMessage::turned_least))]
 fn turned_least(cost: i64, low: i64, share: Share) -> i64
     requires { (cost <ℤ unbounded → unsigned_abs cost ≤ cost_limit) × (unsigned_abs low ≤ cost_limit) }
@@ -242,6 +243,7 @@ impl Joint<'_> {
     }
 
     // Whether the node's costs and the edge's cells stay within the limit. The row receives `taken`, the amounts negated.
+    // Kept: `taken` beside the amounts, as both are written after it.
     pub(crate) fn fits(&self, amounts: &Amounts, taken: &Amounts, limit: Limit) -> bool
         requires { taken.now.each ≡ taken_of amounts.now.each }
         ensures { result ≡ fit_in self.now limit.most amounts.now.each }

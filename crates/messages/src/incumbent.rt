@@ -1,8 +1,8 @@
 // The incumbent: whether its bytes are a matching or none, and whether a labelling replaces it.
-ghost use Rattle.std.specs.Prelude.{◌≡◌, ◌<◌, ◌≤◌, true, length, nat_eq, unsigned_abs};
-ghost use Rattle.integers.specs.Places.{every, total};
+ghost use Rattle.std.specs.Prelude.{◌≡◌, length, nat_eq};
+ghost use Rattle.integers.specs.Places.{every};
 ghost use Rattle.instance.specs.Sheet.{instance_of};
-ghost use Rattle.rules.specs.Costs.{none_kept, Labelling, chosen, chosen_cell, price_of};
+ghost use Rattle.rules.specs.Costs.{none_kept};
 ghost use Rattle.rules.specs.Calls.{is_matching, incumbent_ok};
 ghost use Rattle.messages.specs.Incumbent.{replaces, adopted_of};
 ghost use Rattle.messages.specs.RoundRecord.{IncumbentFits};

@@ -1,5 +1,5 @@
 // A list of records, run one by one up to the first that is refused.
-ghost use Rattle.std.specs.Prelude.{◌≡◌, ◌%◌, ◌≤◌, length, IfOk};
+ghost use Rattle.std.specs.Prelude.{◌≡◌, ◌%◌, length, IfOk};
 ghost use Rattle.instance.specs.Refusal.{refused_in};
 ghost use Rattle.rules.specs.Run.{run_list};
 ghost use Rattle.rules.specs.Calls.{cost_limit, run_of, run_refusal};

@@ -32,6 +32,7 @@ pub fn open(
     fill_prices(&sheet, sheet.prices, nodes);
     labels.fill(0);
     fill_prices(&sheet, sheet.edge_prices, edges);
+    // Kept: 255 is what the bytes that C lends have where no matching is kept.
     incumbent.fill(255);
     Ok(())
 }

@@ -30,6 +30,7 @@ pub(crate) enum Kind {
 
 impl Kind {
     // The kind by its number.
+    // Kept: no `TryFrom`, whose error would say nothing.
     #[tactic(auto, using(crate::proofs::KindLaws::kind_past), unfolding(rules::specs::Run::kind_of))]
     fn of(number: u8) -> Option<Kind>
         ensures { result ≡ kind_as (kind_of number) }

@@ -29,6 +29,7 @@ pub(crate) fn minus(a: i64, b: i64) -> i64
 }
 
 // The less of a cost of a row and the best so far.
+// Kept: it asks that the place is in the row, and so do others here, as an index into a slice does.
 #[tactic(auto, using(crate::proofs::RowLaws::less_back, integers::proofs::Bits::answer))]
 pub(crate) fn less_at(row: &[i64], i: usize, best: i64) -> i64
     requires { i < length row.now }
@@ -117,6 +118,7 @@ fn nearest_to(n: u64, share: Share) -> u64
 }
 
 // A share of how far a cost is above another, or below it. Most shares are 1, and a division takes long.
+// Kept: that a cost is within the limit is asked for here and by those that call it for one cost, as in `amount_of` for a row.
 pub(crate) fn share_of(cost: i64, low: i64, part: Share) -> i64
     requires { (unsigned_abs cost ≤ cost_limit) × (unsigned_abs low ≤ cost_limit) }
     ensures { result ≡ share (cost -ℤ low) part.parts }
@@ -125,8 +127,7 @@ pub(crate) fn share_of(cost: i64, low: i64, part: Share) -> i64
     if part.parts == 1 {
         return apart;
     }
-    // Kept: at most 2^41; `try_from` would add a case that cannot happen.
-    let size = nearest_to(apart.unsigned_abs(), part) as i64;
+    let size = nearest_to(apart.unsigned_abs(), part).cast_signed();
     if apart < 0 { -size } else { size }
 }
 

@@ -19,6 +19,7 @@ pub(crate) fn take_first(nodes: &Nodes) -> Option<[u8; 64]>
             taken[u] = l;
             free ^= bit_of(l);
         } else if nodes.own[u] {
+            // Kept: 255, as in `Seats`.
             taken[u] = 255;
         } else {
             return None;

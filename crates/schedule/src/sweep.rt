@@ -20,6 +20,7 @@ pub(crate) enum Direction {
     Backward = 1,
 }
 
+// Kept: no `TryFrom`, whose error would say nothing.
 #[tactic(auto, unfolding(crate::specs::Writing::direction_of))]
 fn direction_of(number: u8) -> Option<Direction>
     ensures { result ≡ direction_of number }
@@ -50,6 +51,7 @@ fn edges_by(sheet: &Sheet, end: End) -> Index
 }
 
 // The nodes, rising: from the edges to lower nodes, to those to higher nodes, to the labels.
+// Kept: the two indexes one by one, as a backward sweep gives them to `pass` the other way round.
 fn forward(sheet: &Sheet, lower: &Index, higher: &Index, w: &mut Writer)
     requires { Room w.old (length (each (forward_of (instance_of sheet.now.bytes.now) lower.now higher.now) (range 0 sheet.now.nodes))) }
     ensures { Wrote w.old (each (forward_of (instance_of sheet.now.bytes.now) lower.now higher.now) (range 0 sheet.now.nodes)) w.new }
