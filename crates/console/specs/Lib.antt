@@ -2,6 +2,7 @@
 pub mod Ascii
 pub mod Decimal
 pub mod Lines
+pub mod Numbers
 pub mod Output
 pub mod Program
 pub mod TextLines

@@ -6,6 +6,6 @@ mod program;
 mod room;
 mod text;
 
-pub use printing::{compose, refusal_text};
+pub use printing::{compose, compose_numbers, refusal_text};
 pub use program::answer;
 pub use room::{record_buffer, sheet_buffer};

@@ -3,6 +3,7 @@ ghost use Rattle.std.specs.Prelude.{◌≡◌, ◌+◌, ◌≤◌};
 ghost use Rattle.instance.specs.Refusal.{number, number_of};
 ghost use Rattle.messages.specs.Answers.{reported_as};
 ghost use Rattle.console.specs.Lines.{refused_line, count_lines, kept_lines, bound_lines, at_records, stop_line, report_text, text_of};
+ghost use Rattle.console.specs.Numbers.{stopped_by, reported_by};
 ghost use Rattle.console.specs.Output.{outputs, output_of};
 ghost use Rattle.console.specs.Writing.{Wrote, Room};
 
@@ -133,4 +134,44 @@ pub fn refusal_text(number: u8, out: &mut [u8]) -> usize
     let mut text = Text { out, len: 0 };
     refused_line(&mut text, number);
     text.len
+}
+
+// The refusal of a record that has a number, none for 0; no answer for a number that is no record's.
+#[tactic(auto, unfolding(crate::specs::Numbers::stopped_by))]
+fn stopped_by(number: u8) -> Option<Option<Refusal>>
+    ensures { result ≡ stopped_by number }
+{
+    match number {
+        0 => Some(None),
+        12 => Some(Some(Refusal::NoSuchRecord)),
+        13 => Some(Some(Refusal::CostOverflow)),
+        _ => None,
+    }
+}
+
+// The same as `compose` for any numbers: of the refusal that stopped the run, 0 for none, and of the report's.
+// Kept: numbers, since the types that `compose` takes have no others than the tables'.
+pub fn compose_numbers(
+    done: usize,
+    stuck: usize,
+    refusal: u8,
+    report: Result<Report, u8>,
+    out: &mut [u8],
+) -> usize
+    ensures { outputs out.new result ≡ output_of (text_of done stuck refusal (reported_by report)) out.old }
+{
+    let Some(stopped) = stopped_by(refusal) else {
+        return refusal_text(refusal, out);
+    };
+    match report {
+        Ok(report) => {
+            let answer = Answer {
+                done,
+                stuck,
+                refusal: stopped,
+            };
+            compose(answer, Ok(report), out)
+        }
+        Err(number) => refusal_text(number, out),
+    }
 }

@@ -9,7 +9,7 @@ const SHEET_ROOM: usize = 22_097;
 const RECORD_ROOM: usize = 40_961;
 
 // Zeros to read a sheet into.
-// Kept, and `record_buffer`: two calls, since each promises its own room; with a const parameter every caller would name the number.
+// Kept: beside `record_buffer`, since each promises its own room; with a const parameter every caller would name the number.
 pub fn sheet_buffer() -> [u8; SHEET_ROOM]
     ensures value { result ≡ replicate sheet_room 0 }
     ensures sheet_room_value { sheet_room ≡ length result }

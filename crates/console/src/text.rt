@@ -2,7 +2,7 @@
 
 // A buffer, of which the bytes ahead of `len` are text.
 // Kept: the room that is asked for is that of the piece, or a bound on it, and so no fact of the type.
-// Kept, beside `Writer` of `schedule`: it counts bytes and not records, and one struct for both would want a crate below both.
+// Kept: beside `Writer` of `schedule`. This counts bytes and not records, and one struct for both would want a crate below both.
 #[derive(Drop)]
 pub(crate) struct Text<'a> {
     pub(crate) out: &'a mut [u8],

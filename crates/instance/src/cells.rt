@@ -1,5 +1,5 @@
 // Whether each edge has a usable cell. Document 02, wish 2.
-// Kept: each takes the bytes, counts and starts, and asks for what passed before it, as a stage of reading; a struct of these would be made once, for the two calls here.
+// Kept: the bytes, counts and starts are parameters, and what passed before is asked for, as in a stage of reading: a struct of them would be made once, for what is called here.
 ghost use Rattle.std.specs.Prelude.{◌≡◌, ◌<◌, ◌≤◌, not, length, nat_lt};
 ghost use Rattle.integers.specs.Checks.{below};
 ghost use Rattle.instance.specs.Bytes.{byte};

@@ -34,7 +34,7 @@ pub struct Sheet<'a> {
 }
 
 // Kept: a method asks that the node, edge or place is there, as an index into a slice does; a type for each would be made wherever a number is read.
-// Kept, `low` and `high`: two of them, since no caller has an end as a value.
+// Kept: `low` and `high` are two methods, since every caller but one wants a certain end.
 impl<'a> Sheet<'a> {
     // How many positions node `u` has.
     pub fn degree(&self, u: usize) -> usize

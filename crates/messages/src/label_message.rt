@@ -18,7 +18,7 @@ use crate::state::State;
 use instance::Refusal;
 
 // Moves `p` from the node cost to the label cost at the place `i`, where both stay within the limit.
-// Kept: over the two buffers, which it asks to be within the limit, and no method of a `State`: between its two writes they need not be what a `State` promises.
+// Kept: over the two buffers, which it asks to be within the limit: a method would have to show what a `State` promises by itself, which the record's own method has from the law of all records.
 #[tactic(auto, using(crate::proofs::LabelMessageLaws::moved_both, crate::proofs::LabelMessageLaws::moved_not, integers::proofs::Bits::same))]
 pub(crate) fn shift_label(
     nodes: &mut [i64],

@@ -30,7 +30,7 @@ pub(crate) enum Kind {
 
 impl Kind {
     // The kind by its number.
-    // Kept: no `TryFrom`, whose error would say nothing.
+    // Kept: a function to an `Option`, which its one caller takes apart at once; the error of a `TryFrom` would be named nowhere.
     #[tactic(auto, using(crate::proofs::KindLaws::kind_past), unfolding(rules::specs::Run::kind_of))]
     fn of(number: u8) -> Option<Kind>
         ensures { result ≡ kind_as (kind_of number) }

@@ -45,7 +45,7 @@ fn row_of(labels: &[u8]) -> Row
     requires { Labels (entry labels.now) (length labels.now) }
     ensures { Worded (entry labels.now) (length labels.now) result.word result.own }
 {
-    // Kept: 255 by itself; `exclusive` takes a label as an index, and would be the same comparison of a byte made wider.
+    // Kept: 255 by itself; `exclusive` takes a label as a usize, and would be the same comparison of a byte made wider.
     let own = labels[labels.len() - 1] == 255;
     let word = word_of(&labels[..labels.len() - usize::from(own)]);
     Row { word, own }

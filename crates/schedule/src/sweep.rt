@@ -20,7 +20,7 @@ pub(crate) enum Direction {
     Backward = 1,
 }
 
-// Kept: no `TryFrom`, whose error would say nothing.
+// Kept: a function to an `Option`, which its one caller takes apart at once; the error of a `TryFrom` would be named nowhere.
 #[tactic(auto, unfolding(crate::specs::Writing::direction_of))]
 fn direction_of(number: u8) -> Option<Direction>
     ensures { result ≡ direction_of number }
@@ -33,7 +33,7 @@ fn direction_of(number: u8) -> Option<Direction>
 }
 
 // The two ends of an edge, by where they stand in its bytes.
-// Kept, beside `End` of `messages`: that one is about rows and columns, and neither crate shows its own.
+// Kept: beside `End` of `messages`, which is about rows and columns; neither crate shows its own.
 #[derive(Clone, Copy)]
 pub(crate) enum End {
     Lower = 0,

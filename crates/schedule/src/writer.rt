@@ -1,7 +1,7 @@
 // Writing records one after another.
 
 // The kinds of records, by their numbers.
-// Kept, beside `Kind` of `messages`: that one says what a record does, and has no numbers.
+// Kept: beside `Kind` of `messages`, which says what a record does, and has no numbers.
 #[derive(Clone, Copy)]
 pub(crate) enum Kind {
     ToEdge = 1,

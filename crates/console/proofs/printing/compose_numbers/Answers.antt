@@ -1,0 +1,33 @@
+-- `compose_numbers` meets its contract: a number that is no record's is printed alone, as a report's is; else it is the text of `compose`.
+use Rattle.std.proofs.Common.{◌≡◌, ℕ, List, Result, Ok, sym, ap, ◌∙◌}
+use Rattle.messages.specs.declared.answers.Report.{Report}
+use Rattle.console.specs.Lines.{text_of}
+use Rattle.console.specs.Numbers.{reported_by}
+use Rattle.console.specs.Output.{Output, output_of}
+use Rattle.console.proofs.NumberedLaws.{stopped_not, stopped_at, report_same, report_alone}
+use Rattle.console.proofs.printing.compose_numbers.Goals as goal
+use Rattle.console.proofs.printing.compose_numbers.Goals.{Start}
+
+-- what is put out, by the report and by the text
+abbrev told : Start → Result Report ℕ → Output
+told q t = output_of (text_of q.args.done q.args.stuck q.args.refusal (reported_by t)) q.args.out.now
+
+abbrev put : Start → List ℕ → Output
+put q l = output_of l q.args.out.now
+
+pub returns-in_default : goal.returns-in_default
+returns-in_default c =
+    let q = (goal.at.returns-in_default c).Start in
+    c.refusal_text.ensures ∙ ap (put q) (stopped_not q.args.refusal (sym c.in_default.is ∙ c.stopped_by.ensures) q.args.done q.args.stuck (reported_by q.args.report))
+
+pub returns-in-Ok : goal.returns-in-Ok
+returns-in-Ok c =
+    let q = (goal.at.returns-in-Ok c).Start in
+    let n = stopped_at q.args.refusal c.in-Some.stopped (sym c.in-Some.is ∙ c.stopped_by.ensures) in
+    c.compose.ensures ∙ ap (put q) (λ i. text_of q.args.done q.args.stuck (n.0 i) (report_same c.in-Ok.report i)) ∙ ap (told q) (sym c.in-Ok.is)
+
+pub returns-in-Err : goal.returns-in-Err
+returns-in-Err c =
+    let q = (goal.at.returns-in-Err c).Start in
+    let n = stopped_at q.args.refusal c.in-Some.stopped (sym c.in-Some.is ∙ c.stopped_by.ensures) in
+    c.refusal_text-in-Err.ensures ∙ ap (put q) (report_alone q.args.refusal n.1 q.args.done q.args.stuck c.in-Err.number) ∙ ap (told q) (sym c.in-Err.is)
