@@ -59,7 +59,7 @@ fn stop_line(text: &mut Text, refusal: Option<Refusal>)
     ensures { Wrote text.old (stop_line (number_of refusal)) text.new }
 {
     if let Some(refusal) = refusal {
-        refused_line(text, refusal.number());
+        refused_line(text, u8::from(refusal));
     }
 }
 
@@ -85,7 +85,7 @@ fn report_text(text: &mut Text, answer: Answer, report: Result<Report, Refusal>)
 {
     match report {
         Ok(report) => told_text(text, answer, report),
-        Err(refusal) => refused_line(text, refusal.number()),
+        Err(refusal) => refused_line(text, u8::from(refusal)),
     }
 }
 
@@ -104,7 +104,7 @@ fn run_text(text: &mut Text, answer: Answer, report: Result<Report, Refusal>)
     ensures { Wrote text.old (text_of answer.done answer.stuck (number_of answer.refusal) (reported_as report)) text.new }
 {
     match answer.refusal {
-        Some(refusal) if !at_record(refusal) => refused_line(text, refusal.number()),
+        Some(refusal) if !at_record(refusal) => refused_line(text, u8::from(refusal)),
         _ => report_text(text, answer, report),
     }
 }

@@ -28,10 +28,10 @@ fn answer_in(
     ensures { outputs out.new result ≡ output_of (printed sheet.now records.now) out.old }
 {
     if let Err(refusal) = open(sheet, nodes, labels, edges, incumbent) {
-        return refusal_text(refusal.number(), out);
+        return refusal_text(u8::from(refusal), out);
     }
     if MOST_BYTES < records.len() {
-        return refusal_text(Refusal::PartialRecord.number(), out);
+        return refusal_text(u8::from(Refusal::PartialRecord), out);
     }
     let ran = run(sheet, records, nodes, labels, edges, incumbent);
     let told = report(sheet, nodes, labels, edges, incumbent);
@@ -65,6 +65,6 @@ pub fn answer(sheet: &[u8], records: &[u8], out: &mut [u8]) -> usize
 {
     match Sheet::read(sheet) {
         Ok(sheet) => answer_of(&sheet, records, out),
-        Err(refusal) => refusal_text(refusal.number(), out),
+        Err(refusal) => refusal_text(u8::from(refusal), out),
     }
 }

@@ -46,7 +46,7 @@ pub extern "C" fn cirbaldu_run(
     let both = [answer.done, answer.stuck];
     copy(&both, counts);
     match answer.refusal {
-        Some(refusal) => refusal.number(),
+        Some(refusal) => u8::from(refusal),
         None => NONE,
     }
 }
@@ -85,6 +85,6 @@ pub extern "C" fn cirbaldu_report(
             store_report(told, values);
             NONE
         }
-        Err(refusal) => refusal.number(),
+        Err(refusal) => u8::from(refusal),
     }
 }

@@ -34,7 +34,7 @@ fn store_refusal(refusal: Refusal, answer: &mut [u64])
     ensures { answer.new ≡ numbers_of (refused_by (number refusal)) }
 {
     answer.fill(0);
-    answer[0] = u64::from(refusal.number());
+    answer[0] = u64::from(u8::from(refusal));
 }
 
 // Reads a sheet; answers the refusal. `answer`, of 326 places, has the refusal, n, L, E, N, M, the 64 node starts and the
@@ -55,7 +55,7 @@ pub extern "C" fn cirbaldu_read(sheet: &[u8], answer: &mut [u64]) -> u8
         }
         Err(refusal) => {
             store_refusal(refusal, answer);
-            refusal.number()
+            u8::from(refusal)
         }
     }
 }

@@ -15,7 +15,7 @@ pub(crate) fn code<T: Drop>(answer: Result<T, Refusal>) -> u8
 {
     match answer {
         Ok(_) => NONE,
-        Err(refusal) => refusal.number(),
+        Err(refusal) => u8::from(refusal),
     }
 }
 
@@ -25,8 +25,8 @@ pub(crate) fn refuse_length<T: Drop>(before: Result<T, Refusal>) -> u8
     ensures { result ≡ unlent (refused_in before) }
 {
     match before {
-        Ok(_) => Refusal::BufferLength.number(),
-        Err(before) => before.number(),
+        Ok(_) => u8::from(Refusal::BufferLength),
+        Err(before) => u8::from(before),
     }
 }
 

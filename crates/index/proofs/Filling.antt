@@ -3,9 +3,8 @@
 use mathlib.Core.Path.{◌≡◌, refl, sym, ap, ◌∙◌, fun_ext, subst}
 use mathlib.Core.Bool.{Bool, true, false, ◌&&◌, and-false}
 use mathlib.Core.List.{List, [], ◌∷◌, ◌++◌, append-nil}
-use Prim.Native.Nat.{ℕ, zero, suc, ◌+◌, ◌-◌, ◌*◌, ◌/◌, ◌%◌, ◌≤◌, ◌<◌}
-use native.Mathlib.Nat.{div-add-mod, mod-lt, mul-add-div, mul-add-mod_self_left, div-eq_of_lt, mod-eq_of_lt, mul-le-mul_left, mul-suc, lt-mul-div-succ, mul-div-le}
-use native.Mathlib.Numerals.{add-one}
+use Prim.Native.Nat.{ℕ, zero, suc, ◌+◌, ◌-◌, ◌*◌, ◌/◌, ◌%◌, ◌≤◌, ◌<◌, min}
+use native.Mathlib.Nat.{div-add-mod, mod-lt, mul-add-div, mul-add-mod_self_left, div-eq_of_lt, mod-eq_of_lt, mul-le-mul_left, mul-suc}
 use native.Mathlib.Omega.{arith}
 use borrow.Author.Tests.{eq-eqb, ne_eqb, eqb-true, eqb-false, ltb-true, ltb-false, lt-ltb, le-ltb}
 use lib.Dec.{eqb, ltb}
@@ -233,28 +232,10 @@ filled_all bytes stride {m} w = ap in_rows (fun_ext (λ l. ap (take 64) (sym (ro
 pub counted_none : (size stride : ℕ) → stride ≡ 0 → Things size stride 0
 counted_none size stride z = record { few = omega arith; each = λ i h. absurd (omega arith); all = λ i _ _. no_stride size stride i z }
 
--- m is the length by the stride, rounded up
-pub counted_by : (size stride m : ℕ) → size ≤ stride * m → stride * m < size + stride → m ≤ 65_536 → Things size stride m
-counted_by size stride m all each few = record {
-  few = few;
-  each = λ i h. thing_yes size stride i (omega arith) (let q = mul-le-mul_left {m = suc i} {n = m} stride h in let w = mul-suc stride i in omega arith);
-  all = λ i h _. thing_no size stride i (let q = mul-le-mul_left {m = m} {n = i} stride h in omega arith);
+-- k is the length by the stride, rounded up
+pub counted_by : (size stride k : ℕ) → size ≤ stride * k → stride * k < size + stride → Things size stride (min k 65_536)
+counted_by size stride k all each = record {
+  few = omega arith;
+  each = λ i h. thing_yes size stride i (omega arith) (let q = mul-le-mul_left {m = suc i} {n = k} stride (omega arith) in let w = mul-suc stride i in omega arith);
+  all = λ i h l. thing_no size stride i (let q = mul-le-mul_left {m = k} {n = i} stride (omega arith) in omega arith);
 }
-
-module _ (size stride : ℕ) (s : 0 < stride) (some : 0 < size) where
-  abbrev last : ℕ
-  last = (size - 1) / stride
-
-  pub counted_few : last < 65_536 → Things size stride (last + 1)
-  counted_few h =
-      let a = lt-mul-div-succ (size - 1) s in
-      let b = mul-div-le (size - 1) stride in
-      let e : stride * (last + 1) ≡ stride * last + stride = ap (◌*◌ stride) (add-one last) ∙ mul-suc stride last in
-      counted_by size stride (last + 1) (omega arith) (omega arith) (omega arith)
-
-  pub counted_most : 65_536 ≤ last → Things size stride 65_536
-  counted_most h = record {
-    few = omega arith;
-    each = λ i b. thing_yes size stride i s (let q = mul-le-mul_left {m = i} {n = last} stride (omega arith) in let r = mul-div-le (size - 1) stride in omega arith);
-    all = λ i a b. absurd (omega arith);
-  }

@@ -1,6 +1,6 @@
 -- What other crates know of an index: that `index_of` is one, and what its rows hold.
 -- Assumes nothing.
-use mathlib.Core.Path.{◌≡◌, sym, ap, ◌∙◌}
+use mathlib.Core.Path.{◌≡◌, sym, ap, ◌∙◌, subst}
 use mathlib.Core.Bool.{◌&&◌}
 use mathlib.Core.List.{List}
 use Prim.Native.Nat.{ℕ, suc, ◌+◌, ◌*◌, ◌≤◌, ◌<◌}
@@ -12,7 +12,7 @@ use lib.Seq.{length-take-le, get_or-take, get_or-drop, take_all, ext_get_or}
 use Rattle.integers.specs.Places.{range, select}
 use Rattle.integers.proofs.Places.{length-range, get_or-range}
 use Rattle.integers.proofs.Ranges.{range-part}
-use Rattle.index.specs.Index.{thing, key_at, row_of, index_of, having, many, held, Few, Indexed, Indexable}
+use Rattle.index.specs.Index.{thing, key_at, row_of, index_of, having, many, held, Few, Indexed, Indexable, Things}
 use Rattle.index.proofs.Lists.{having_ext, at_place}
 use Rattle.index.proofs.Filling.{rows_size, rows_at, rows_many, cell_of, filled, filled_all, counted_by}
 
@@ -78,7 +78,8 @@ indexed_ext {f} {g} {m} {index} h x = record {
 pub indexed_of : {bytes : List ℕ} {stride : ℕ} {key : ℕ → ℕ} {m : ℕ} → Indexable bytes stride key m → Indexed key m (index_of bytes stride)
 indexed_of {bytes} {stride} {key} {m} w =
     let roomy : (l : ℕ) → l < 64 → length (having (key_at bytes stride) l m) ≤ 64 = (λ l h. let r = w.roomy l h in omega (arith, ap length (having_ext (key_at bytes stride) key m w.keys l))) in
-    indexed_ext w.keys (rw (filled_all bytes stride (counted_by (length bytes) stride m w.all w.each w.few)) at (filled_indexed (key_at bytes stride) m roomy))
+    let things : Things (length bytes) stride m = subst (Things (length bytes) stride) (let f = w.few in omega arith) (counted_by (length bytes) stride m w.all w.each) in
+    indexed_ext w.keys (rw (filled_all bytes stride things) at (filled_indexed (key_at bytes stride) m roomy))
 
 -- the same of a part of a list
 pub indexed_part : (s : List ℕ) (from size stride : ℕ) {key : ℕ → ℕ} {m : ℕ} → from + size ≤ length s → size ≤ stride * m → stride * m < size + stride → m ≤ 65_536

@@ -54,18 +54,14 @@ fn count(len: usize, stride: usize) -> usize
     if stride == 0 {
         return 0;
     }
-    if len == 0 {
-        return 0;
-    }
-    let last = (len - 1) / stride;
-    if last < 65536 { last + 1 } else { 65536 }
+    len.div_ceil(stride).min(65_536)
 }
 
 // Adds a thing to the row of its key, if there is such a row and it is not full.
 // Kept: the array and no `Index`, so that the laws of filling are of lists; the type's promise is shown once, when it is filled.
 #[tactic(auto, using(crate::proofs::Filling::entered_full, crate::proofs::Filling::entered_in, crate::proofs::Filling::entered_past))]
 fn enter(index: &mut [u16; 4160], key: usize, thing: usize)
-    requires { thing < 65536 }
+    requires { thing < 65_536 }
     ensures { index.new ≡ entered index.old key thing }
 {
     if key < 64 {

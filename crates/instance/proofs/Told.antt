@@ -1,14 +1,16 @@
 -- What the library's comparisons and chains tell, as the checks have it.
 -- Assumes nothing.
-use Rattle.std.proofs.Common.{◌≡◌, ℕ, suc, ◌+◌, ◌-◌, ◌<◌, ◌≤◌, Bool, true, eqb, List, [], ◌∷◌, length, take, drop, refl, arith, lit≤, drop-cons}
+use Rattle.std.proofs.Common.{◌≡◌, ℕ, suc, ◌+◌, ◌-◌, ◌<◌, ◌≤◌, Bool, true, eqb, List, [], ◌∷◌, length, take, drop, refl, ap, ◌∙◌, arith, lit≤, drop-cons}
 use Rattle.std.specs.Prelude.{IsTrue}
 use lib.Pointwise.{pointwise}
+use Rattle.std.specs.Prelude.{Result, IsErrAnd}
+use Rattle.std.proofs.lemmas.Result.{err_from_is_err_and}
 use Rattle.integers.specs.Checks.{below}
 use Rattle.integers.proofs.Places.{both_ways}
 use Rattle.integers.proofs.Checks.{below_at, below_all}
 use Rattle.instance.specs.declared.refusal.Refusal.{Refusal}
 use Rattle.instance.specs.declared.refusal.Refusal.TheVariants.{NoTrailer, OverLimit, WrongLength, BadDegree, BadLabel, BadEdge, PriceRange, BufferLength, CostRange, BadIncumbent, PartialRecord, NoSuchRecord, CostOverflow, BoundAboveCost, NoUsableCell, NoMatching}
-use Rattle.instance.specs.Refusal.{number}
+use Rattle.instance.specs.Refusal.{number, refused_in}
 use Rattle.instance.specs.Bytes.{byte}
 use Rattle.instance.specs.Sheet.{mark, mark_at}
 
@@ -47,3 +49,7 @@ numbered CostOverflow = lit≤ tt
 numbered BoundAboveCost = lit≤ tt
 numbered NoUsableCell = lit≤ tt
 numbered NoMatching = lit≤ tt
+
+-- what a `?` hands on has its number
+pub handed : {A : Type 0} (f : Refusal) (r : Result A Refusal) → IsErrAnd r (λ y. y ≡ f) → refused_in r ≡ number f
+handed f r h = let (y, e, q) = err_from_is_err_and r h in ap refused_in e ∙ ap number q

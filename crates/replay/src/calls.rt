@@ -104,7 +104,7 @@ fn wide(count: usize) -> u64 {
 
 // A refusal's number, 0 for none.
 fn number(refusal: Option<Refusal>) -> u64 {
-    refusal.map_or(0, |refusal| u64::from(refusal.number()))
+    refusal.map_or(0, |refusal| u64::from(u8::from(refusal)))
 }
 
 // Show edge: the refusal and the length of the part, and the part as the output.
@@ -168,7 +168,7 @@ fn read(sheet: &[u8], reader: &mut Reader) -> Option<bool> {
             Some(answers.are(&numbers, starts.words(&sheet.tables)))
         }
         Err(refusal) => {
-            let numbers = [u64::from(refusal.number()), 0, 0, 0, 0, 0];
+            let numbers = [u64::from(u8::from(refusal)), 0, 0, 0, 0, 0];
             Some(answers.are(&numbers, Hash::new().words(&[0; 320])))
         }
     }

@@ -30,7 +30,7 @@ fn write(rt: &HostRuntime, sheet: &[u8], direction: u8) -> io::Result<()> {
     let mut out = [0u8; 7_685];
     match sweep_at_start(sheet, direction, &mut out) {
         Ok(list) => rt.stdout().write_all(list),
-        Err(refusal) => terminal::print_refusal(&mut rt.stderr(), refusal.number()),
+        Err(refusal) => terminal::print_refusal(&mut rt.stderr(), u8::from(refusal)),
     }
 }
 
