@@ -1,6 +1,6 @@
 -- A run and a report whose refusals are any numbers: what is printed of them.
 -- Assumes nothing.
-use Rattle.std.proofs.Common.{◌⊎◌, inl, inr, ◌≡◌, ℕ, Bool, true, false, cond, ◌||◌, eqb, Option, None, Some, Ok, List, refl, sym, ap, ◌∙◌, eqb-true}
+use Rattle.std.proofs.Common.{◌⊎◌, inl, inr, ◌≡◌, ℕ, Bool, true, false, cond, ◌||◌, eqb, Option, None, Some, Result, Ok, Err, List, refl, sym, ap, ◌∙◌, eqb-true}
 use Rattle.integers.proofs.Places.{if-true, if-false}
 use Rattle.instance.specs.declared.refusal.Refusal.{Refusal}
 use Rattle.instance.specs.declared.refusal.Refusal.TheVariants.{NoSuchRecord, CostOverflow}
@@ -13,36 +13,43 @@ use Rattle.console.specs.Lines.{refused_line, at_records, report_text, text_of}
 use Rattle.console.specs.Numbers.{stopped_by, reported_by}
 
 -- by the three tests: a record's, or 0, is that of the refusal, and any other number is none
-abbrev chosen : Bool → Bool → Bool → Option (Option Refusal)
-chosen a b c = cond a (Some None) (cond b (Some (Some NoSuchRecord)) (cond c (Some (Some CostOverflow)) None))
+abbrev chosen : ℕ → Bool → Bool → Bool → Result (Option Refusal) ℕ
+chosen r a b c = cond a (Ok None) (cond b (Ok (Some NoSuchRecord)) (cond c (Ok (Some CostOverflow)) (Err r)))
 
-none_chosen : (a b c : Bool) → None ≡ chosen a b c → (a || b || c) ≡ false
-none_chosen true b c e = cc e
-none_chosen false true c e = cc e
-none_chosen false false true e = cc e
-none_chosen false false false e = refl
+-- the number in an error, or 0
+abbrev other_in : Result (Option Refusal) ℕ → ℕ
+other_in (Ok o) = 0
+other_in (Err k) = k
+
+none_chosen : (r k : ℕ) (a b c : Bool) → Err k ≡ chosen r a b c → (k ≡ r) × ((a || b || c) ≡ false)
+none_chosen r k true b c e = cc e
+none_chosen r k false true c e = cc e
+none_chosen r k false false true e = cc e
+none_chosen r k false false false e = (ap other_in e, refl)
 
 -- a number that is no record's is printed alone
-pub stopped_not : (r : ℕ) → None ≡ stopped_by r → (d s : ℕ) (t : calls.Report) → refused_line r ≡ text_of d s r t
+pub stopped_not : (r k : ℕ) → Err k ≡ stopped_by r → (d s : ℕ) (t : calls.Report) → refused_line k ≡ text_of d s r t
 unfolding stopped_by at_records text_of
-stopped_not r e d s t = sym (if-false (report_text d s r t) (refused_line r) (none_chosen (eqb r 0) (eqb r 12) (eqb r 13) e))
+stopped_not r k e d s t =
+    let n = none_chosen r k (eqb r 0) (eqb r 12) (eqb r 13) e in
+    ap refused_line n.0 ∙ sym (if-false (report_text d s r t) (refused_line r) n.1)
 
 -- the refusal in an answer
-abbrev inside : Option (Option Refusal) → Option Refusal
-inside (Some o) = o
-inside None = None
+abbrev inside : Result (Option Refusal) ℕ → Option Refusal
+inside (Ok o) = o
+inside (Err k) = None
 
-some_chosen : (a b c : Bool) (o : Option Refusal) → Some o ≡ chosen a b c
+some_chosen : (r : ℕ) (a b c : Bool) (o : Option Refusal) → Ok o ≡ chosen r a b c
     → ((a ≡ true) × (o ≡ None)) ⊎ (((b ≡ true) × (o ≡ Some NoSuchRecord)) ⊎ ((c ≡ true) × (o ≡ Some CostOverflow)))
-some_chosen true b c o e = inl (refl, ap inside e)
-some_chosen false true c o e = inr (inl (refl, ap inside e))
-some_chosen false false true o e = inr (inr (refl, ap inside e))
-some_chosen false false false o e = cc e
+some_chosen r true b c o e = inl (refl, ap inside e)
+some_chosen r false true c o e = inr (inl (refl, ap inside e))
+some_chosen r false false true o e = inr (inr (refl, ap inside e))
+some_chosen r false false false o e = cc e
 
 -- a record's, or 0, is that of the refusal
-pub stopped_at : (r : ℕ) (o : Option Refusal) → Some o ≡ stopped_by r → (number_of o ≡ r) × (at_records r ≡ true)
+pub stopped_at : (r : ℕ) (o : Option Refusal) → Ok o ≡ stopped_by r → (number_of o ≡ r) × (at_records r ≡ true)
 unfolding stopped_by at_records
-stopped_at r o e = go (some_chosen (eqb r 0) (eqb r 12) (eqb r 13) o e)
+stopped_at r o e = go (some_chosen r (eqb r 0) (eqb r 12) (eqb r 13) o e)
   where
     go : ((eqb r 0 ≡ true) × (o ≡ None)) ⊎ (((eqb r 12 ≡ true) × (o ≡ Some NoSuchRecord)) ⊎ ((eqb r 13 ≡ true) × (o ≡ Some CostOverflow))) → (number_of o ≡ r) × ((eqb r 0 || eqb r 12 || eqb r 13) ≡ true)
     go (inl (t, p)) = let n = eqb-true r 0 t in (ap number_of p ∙ sym n, ap (λ k. eqb k 0 || eqb k 12 || eqb k 13) n)

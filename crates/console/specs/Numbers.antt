@@ -6,9 +6,9 @@ use Rattle.messages.specs.declared.answers.Report.{Report}
 use Rattle.messages.specs.declared.answers.Report.TheVariants.{Bound, Kept}
 use Rattle.rules.specs.Calls as calls
 
--- the refusal of a record that has a number, none for 0; no answer for a number that is no record's
-unfoldable pub stopped_by : ℕ → Option (Option Refusal)
-stopped_by r = cond (eqb r 0) (Some None) (cond (eqb r 12) (Some (Some NoSuchRecord)) (cond (eqb r 13) (Some (Some CostOverflow)) None))
+-- what stopped a run, by its number: no record for 0, or a record; any other number is no record's
+unfoldable pub stopped_by : ℕ → Result (Option Refusal) ℕ
+stopped_by r = cond (eqb r 0) (Ok None) (cond (eqb r 12) (Ok (Some NoSuchRecord)) (cond (eqb r 13) (Ok (Some CostOverflow)) (Err r)))
 
 -- a report whose refusal is a number
 abbrev pub reported_by : Result Report ℕ → calls.Report

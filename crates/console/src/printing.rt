@@ -136,16 +136,16 @@ pub fn refusal_text(number: u8, out: &mut [u8]) -> usize
     text.len
 }
 
-// The refusal of a record that has a number, none for 0; no answer for a number that is no record's.
+// What stopped a run, by its number: no record for 0, or a record. Any other number is no record's, and an error.
 #[tactic(auto, unfolding(crate::specs::Numbers::stopped_by))]
-fn stopped_by(number: u8) -> Option<Option<Refusal>>
+fn stopped_by(number: u8) -> Result<Option<Refusal>, u8>
     ensures { result ≡ stopped_by number }
 {
     match number {
-        0 => Some(None),
-        12 => Some(Some(Refusal::NoSuchRecord)),
-        13 => Some(Some(Refusal::CostOverflow)),
-        _ => None,
+        0 => Ok(None),
+        12 => Ok(Some(Refusal::NoSuchRecord)),
+        13 => Ok(Some(Refusal::CostOverflow)),
+        other => Err(other),
     }
 }
 
@@ -160,8 +160,9 @@ pub fn compose_numbers(
 ) -> usize
     ensures { outputs out.new result ≡ output_of (text_of done stuck refusal (reported_by report)) out.old }
 {
-    let Some(stopped) = stopped_by(refusal) else {
-        return refusal_text(refusal, out);
+    let stopped = match stopped_by(refusal) {
+        Ok(stopped) => stopped,
+        Err(other) => return refusal_text(other, out),
     };
     match report {
         Ok(report) => {

@@ -3,7 +3,7 @@
 
 use messages::{Answer, Refusal, Report};
 use std::fs::{self, Files};
-use std::io::{self, Print};
+use std::io::{self, Print, Write};
 
 // The runs: a heading, the sheet's file and the records' file.
 const RUNS: [(&str, &str, &str); 36] = [
@@ -114,20 +114,28 @@ fn run_files<R: Files + Print>(rt: &R, sheet: &str, records: &str) -> io::Result
     }
 }
 
+// The text of a run with the most records done, by the numbers of its refusals.
+fn show_text<R: Print>(rt: &R, refusal: u8, report: Result<Report, u8>) -> io::Result<()> {
+    let mut text = [0u8; 256];
+    let count = console::compose_numbers(usize::MAX, 10, refusal, report, &mut text);
+    io::writer(rt).write_all(&text[..count])
+}
+
 // Numbers that no run has, and a buffer that is too short.
 fn extreme_cases<R: Print>(rt: &R) -> io::Result<()> {
+    heading(rt, "the longest text")?;
+    show_text(rt, 13, Ok(Report::Kept(i64::MIN, i64::MAX, -10)))?;
+    heading(rt, "a report refused")?;
+    show_text(rt, 13, Err(14))?;
+    heading(rt, "a number that no refusal has")?;
+    show_text(rt, 200, Ok(Report::Bound(0)))?;
+    heading(rt, "a buffer of 255 bytes")?;
     let ran = Answer {
         done: usize::MAX,
         stuck: 10,
         refusal: Some(Refusal::CostOverflow),
     };
-    heading(rt, "the longest text")?;
-    terminal::print_answer(rt, ran, Ok(Report::Kept(i64::MIN, i64::MAX, -10)))?;
-    heading(rt, "a report refused")?;
-    terminal::print_answer(rt, ran, Err(Refusal::BoundAboveCost))?;
-    heading(rt, "a buffer of 255 bytes")?;
-    let mut short = [0u8; 255];
-    let count = console::compose(ran, Ok(Report::Bound(0)), &mut short);
+    let count = console::compose(ran, Ok(Report::Bound(0)), &mut [0u8; 255]);
     println!(rt; "{count}")
 }
 

@@ -4,7 +4,6 @@
 
 ghost use Rattle.std.specs.Prelude.{ℕ, ◌≤◌, length};
 
-use messages::{Answer, Refusal, Report};
 use std::fs::{self, Files};
 use std::io::{self, Print, Read, Write};
 
@@ -51,18 +50,6 @@ pub fn print<R: Print>(rt: &R, sheet: &[u8], records: &[u8]) -> io::Result<()> {
     write_text(
         &mut io::writer(rt),
         |text| console::answer(sheet, records, text),
-    )
-}
-
-// Prints the text of a run and of the report after it.
-pub fn print_answer<R: Print>(
-    rt: &R,
-    answer: Answer,
-    report: Result<Report, Refusal>,
-) -> io::Result<()> {
-    write_text(
-        &mut io::writer(rt),
-        |text| console::compose(answer, report, text),
     )
 }
 

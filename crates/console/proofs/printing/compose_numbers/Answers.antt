@@ -15,19 +15,19 @@ told q t = output_of (text_of q.args.done q.args.stuck q.args.refusal (reported_
 abbrev put : Start → List ℕ → Output
 put q l = output_of l q.args.out.now
 
-pub returns-in_default : goal.returns-in_default
-returns-in_default c =
-    let q = (goal.at.returns-in_default c).Start in
-    c.refusal_text.ensures ∙ ap (put q) (stopped_not q.args.refusal (sym c.in_default.is ∙ c.stopped_by.ensures) q.args.done q.args.stuck (reported_by q.args.report))
-
-pub returns-in-Ok : goal.returns-in-Ok
-returns-in-Ok c =
-    let q = (goal.at.returns-in-Ok c).Start in
-    let n = stopped_at q.args.refusal c.in-Some.stopped (sym c.in-Some.is ∙ c.stopped_by.ensures) in
-    c.compose.ensures ∙ ap (put q) (λ i. text_of q.args.done q.args.stuck (n.0 i) (report_same c.in-Ok.report i)) ∙ ap (told q) (sym c.in-Ok.is)
-
 pub returns-in-Err : goal.returns-in-Err
 returns-in-Err c =
     let q = (goal.at.returns-in-Err c).Start in
-    let n = stopped_at q.args.refusal c.in-Some.stopped (sym c.in-Some.is ∙ c.stopped_by.ensures) in
-    c.refusal_text-in-Err.ensures ∙ ap (put q) (report_alone q.args.refusal n.1 q.args.done q.args.stuck c.in-Err.number) ∙ ap (told q) (sym c.in-Err.is)
+    c.refusal_text.ensures ∙ ap (put q) (stopped_not q.args.refusal c.in-Err.other (sym c.in-Err.is ∙ c.stopped_by.ensures) q.args.done q.args.stuck (reported_by q.args.report))
+
+pub returns-in-Ok-report : goal.returns-in-Ok-report
+returns-in-Ok-report c =
+    let q = (goal.at.returns-in-Ok-report c).Start in
+    let n = stopped_at q.args.refusal c.in-Ok.stopped (sym c.in-Ok.is ∙ c.stopped_by.ensures) in
+    c.compose.ensures ∙ ap (put q) (λ i. text_of q.args.done q.args.stuck (n.0 i) (report_same c.in-Ok-report.report i)) ∙ ap (told q) (sym c.in-Ok-report.is)
+
+pub returns-in-Err-report : goal.returns-in-Err-report
+returns-in-Err-report c =
+    let q = (goal.at.returns-in-Err-report c).Start in
+    let n = stopped_at q.args.refusal c.in-Ok.stopped (sym c.in-Ok.is ∙ c.stopped_by.ensures) in
+    c.refusal_text-in-Err-report.ensures ∙ ap (put q) (report_alone q.args.refusal n.1 q.args.done q.args.stuck c.in-Err-report.number) ∙ ap (told q) (sym c.in-Err-report.is)

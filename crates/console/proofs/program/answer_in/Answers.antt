@@ -45,12 +45,12 @@ readable q = sym (told (goal.at.In_default q).After-open) ∙ ap refused_in q.in
 pub returns-in-Err : goal.returns-in-Err
 returns-in-Err c =
     let p = (goal.at.returns-in-Err c).After-open in
-    out_as c.args.out.now (printed_refused (sheet p) (records p) c.in-Err.refusal (sym (ap refused_in c.in-Err.is) ∙ told p)) (c.refusal_text.ensures ∙ ap (λ (k : ℕ). output_of (refused_line k) c.args.out.now) c.number.ensures)
+    out_as c.args.out.now (printed_refused (sheet p) (records p) c.in-Err.refusal (sym (ap refused_in c.in-Err.is) ∙ told p)) (c.refusal_text.ensures ∙ ap (λ (k : ℕ). output_of (refused_line k) c.args.out.now) c.from.ensures)
 
 pub returns-then-records-gt-MOST_BYTES : goal.returns-then-records-gt-MOST_BYTES
 returns-then-records-gt-MOST_BYTES c =
     let q = (goal.at.returns-then-records-gt-MOST_BYTES c).In_default in
-    out_as c.args.out.now (printed_long c.args.sheet.now c.args.records.now (readable q) (omega (arith, c.if-records-gt-MOST_BYTES.true))) (c.refusal_text-then-records-gt-MOST_BYTES.ensures ∙ ap (λ (k : ℕ). output_of (refused_line k) c.args.out.now) c.number-then-records-gt-MOST_BYTES.ensures)
+    out_as c.args.out.now (printed_long c.args.sheet.now c.args.records.now (readable q) (omega (arith, c.if-records-gt-MOST_BYTES.true))) (c.refusal_text-then-records-gt-MOST_BYTES.ensures ∙ ap (λ (k : ℕ). output_of (refused_line k) c.args.out.now) c.from-then-records-gt-MOST_BYTES.ensures)
 
 pub returns : goal.returns
 returns c =

@@ -26,5 +26,5 @@ returns-in-Ok c =
 pub returns-in-Err : goal.returns-in-Err
 unfolding number_of values_in
 returns-in-Err c =
-    ap (λ k. answered k c.args.values.now) c.number.ensures
+    ap (λ k. answered k c.args.values.now) c.from.ensures
     ∙ reported_by c.args.sheet.now (buffers (goal.at.returns-in-Err c).Start) c.args.values.now _ c.if-values-ne4.false (sym (ap reported_as c.in-Err.is) ∙ c.report.ensures) refl

@@ -1,12 +1,11 @@
 -- `place` meets its contract: refused, nothing is altered; else the smallest matching, or a set that shows why there is none.
 use Rattle.std.proofs.Common.{◌≡◌, sym, ap, ◌∙◌, subst, Bool, cond, List, ℕ, ◌≤◌, ◌<◌, arith, length, Bor}
-use Rattle.std.proofs.lemmas.Result.{err_from_is_err_and}
 use Rattle.integers.specs.Places.{tabulate}
 use Rattle.instance.specs.declared.sheet.Sheet.{Sheet}
 use Rattle.instance.specs.Instance.{Instance}
 use Rattle.instance.specs.Sheet.{instance_of}
 use Rattle.instance.specs.Refusal.{number, refused_in}
-use Rattle.instance.proofs.Told.{numbered}
+use Rattle.instance.proofs.Told.{handed, numbered}
 use Rattle.instance.proofs.Sheets.{proper, nodes_is, nodes_few}
 use Rattle.assignment.specs.First.{First}
 use Rattle.placing.specs.Words.{entry, All, rank, rows_of, Blocked, Laid}
@@ -76,8 +75,7 @@ module _ (c : After-lay_words-nodes) where
 pub returns-in_err-sheet : goal.returns-in_err-sheet
 returns-in_err-sheet c =
     let s = c.args.sheet.now in let out = c.args.out.now in
-    let (y, r, e) = err_from_is_err_and c.from_residual.result c.from_residual.ensures.1 in
-    subst (λ k. Placed s out k out) (sym (ap refused_in r ∙ ap number e)) (unread s out c.in_err-sheet.ensures.refusal (λ z. omega (arith, z, numbered c.in_err-sheet.field-0.0)))
+    subst (λ k. Placed s out k out) (sym (handed _ c.from_residual.result c.from_residual.ensures.1)) (unread s out c.in_err-sheet.ensures.refusal (λ z. omega (arith, z, numbered c.in_err-sheet.field-0.0)))
 
 pub returns-then-out-sheet : goal.returns-then-out-sheet
 returns-then-out-sheet c =
