@@ -3,7 +3,7 @@ use crate::buffers::Buffers;
 use crate::calls::Case;
 use crate::ops::Op;
 use crate::reader::Reader;
-use crate::tally::{Tally, Verdict};
+use crate::tally::Tally;
 
 const MARK: [u8; 8] = *b"ORCLVEC1";
 
@@ -46,7 +46,7 @@ fn replay_case(reader: &mut Reader, tally: &mut Tally) -> Option<()> {
 // One call. An op that is none ends the replay.
 fn replay_call(case: &mut Case, reader: &mut Reader, tally: &mut Tally) -> Option<()> {
     let op = Op::try_from(reader.byte()).ok()?;
-    let verdict = Verdict::from(case.call(op, reader));
-    tally.add(op, verdict);
+    let agreed = case.call(op, reader);
+    tally.add(op, agreed);
     reader.held()
 }

@@ -1,5 +1,5 @@
 // Replays the calls of an outside vector file against this repository's crates, counts for each kind of call how many
-// were compared, how many of those differed and how many were skipped, and names the first case and call that differ.
+// were compared, how many differed and how many were skipped, and names the first case and call that differ.
 #![tactic(auto)]
 
 mod buffers;

@@ -2,24 +2,6 @@
 use crate::ops::Op;
 use std::fmt;
 
-#[derive(Clone, Copy, Debug, PartialEq, Eq)]
-pub enum Verdict {
-    Agreed,
-    Differed,
-    Skipped,
-}
-
-// Whether the answers are those of the file; none where the call is skipped.
-impl From<Option<bool>> for Verdict {
-    fn from(agreed: Option<bool>) -> Verdict {
-        match agreed {
-            Some(true) => Verdict::Agreed,
-            Some(false) => Verdict::Differed,
-            None => Verdict::Skipped,
-        }
-    }
-}
-
 // What is counted of one op.
 #[derive(Clone, Copy, Default)]
 struct Counts {
@@ -29,11 +11,12 @@ struct Counts {
 }
 
 impl Counts {
-    fn add(&mut self, verdict: Verdict) {
-        match verdict {
-            Verdict::Skipped => self.skipped = self.skipped.saturating_add(1),
-            Verdict::Agreed => self.compared = self.compared.saturating_add(1),
-            Verdict::Differed => {
+    // Counts a call: whether its answers are those of the file, none where it was skipped.
+    fn add(&mut self, agreed: Option<bool>) {
+        match agreed {
+            None => self.skipped = self.skipped.saturating_add(1),
+            Some(true) => self.compared = self.compared.saturating_add(1),
+            Some(false) => {
                 self.compared = self.compared.saturating_add(1);
                 self.differed = self.differed.saturating_add(1);
             }
@@ -62,7 +45,7 @@ struct Place {
 
 #[derive(Clone, Copy, Default)]
 pub struct Tally {
-    // of each op, by its number among them
+    // of each op, by its place in the enum; an edit's stay 0
     counts: [Counts; 9],
     // the cases gone through to their end
     cases: u64,
@@ -87,21 +70,21 @@ impl Tally {
     }
 
     // Counts one call. An edit of the buffers is no call of the crates, and is not compared. But where the buffers
-    // after it are not those of the file, this program or the file is wrong, and so that it shows, it counts as an open
-    // that differed.
-    pub fn add(&mut self, op: Op, verdict: Verdict) {
+    // after it are not those of the file, this program or the file is wrong, and so that it shows, it is added to the
+    // opens that differed, and not to those that were compared.
+    pub fn add(&mut self, op: Op, agreed: Option<bool>) {
         self.at.call = self.at.call.saturating_add(1);
-        if verdict == Verdict::Differed {
+        if agreed == Some(false) {
             self.first_differed = self.first_differed.or(Some(self.at));
         }
         match op {
             Op::Resize | Op::Poke => {
-                if verdict == Verdict::Differed {
+                if agreed == Some(false) {
                     let open = self.of(Op::Open);
                     open.differed = open.differed.saturating_add(1);
                 }
             }
-            _ => self.of(op).add(verdict),
+            _ => self.of(op).add(agreed),
         }
     }
 }
