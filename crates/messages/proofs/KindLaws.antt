@@ -1,9 +1,11 @@
 -- A record's kind by its number, as the code has it and as the rules do.
 -- Assumes nothing.
-use Rattle.std.proofs.Common.{Option, Some, None, ◌≡◌, ℕ, ◌<◌, ◌≤◌, eqb, leb, List, [], ◌∷◌, refl, ap, arith, eqb-true, leb-true, leb-false}
+use Rattle.std.proofs.Common.{Result, Ok, Err, ◌≡◌, ℕ, ◌<◌, ◌≤◌, eqb, leb, List, [], ◌∷◌, refl, ap, arith, eqb-true, leb-true, leb-false}
 use lib.ListN.{get_or-eq_default}
 use borrow.Author.Tests.{eqb-false}
 use Rattle.integers.proofs.Places.{by-test}
+use Rattle.instance.specs.declared.refusal.Refusal.{Refusal}
+use Rattle.instance.specs.declared.refusal.Refusal.TheVariants.{NoSuchRecord}
 use Rattle.rules.specs.Messages as rules
 use Rattle.rules.specs.Run as runs
 use Rattle.rules.specs.Run.{kind_of}
@@ -20,13 +22,13 @@ kind_past n h =
     (λ u. get_or-eq_default (runs.unknown ∷ runs.message rules.node_to_edge ∷ runs.message rules.edge_to_node ∷ runs.message rules.node_to_label ∷ runs.message rules.label_to_node ∷ runs.rounding ∷ []) runs.unknown (leb-true 6 n u))
     (λ u. let l : n < 6 = leb-false 6 n u in absurd (h (omega arith) (omega arith))))
 
--- no kind is the rules' unknown one
-pub kind_unknown : (k : runs.Kind) → None ≡ kind_as k → k ≡ runs.unknown
+-- what is refused is the rules' unknown kind, and with 12
+pub kind_unknown : (k : runs.Kind) {e : Refusal} → Err e ≡ kind_as k → (k ≡ runs.unknown) × (e ≡ NoSuchRecord)
 kind_unknown (runs.message m) e = cc e
 kind_unknown runs.rounding e = cc e
-kind_unknown runs.unknown e = refl
+kind_unknown runs.unknown e = (refl, cc e)
 
--- and what is no record has none
-pub head_none : (k : Option Kind) (l : List ℕ) → None ≡ head_by k l → None ≡ k
-head_none None l e = refl
-head_none (Some k) l e = cc e
+-- and a record is refused as its kind is
+pub head_none : (k : Result Kind Refusal) (l : List ℕ) {e : Refusal} → Err e ≡ head_by k l → Err e ≡ k
+head_none (Err e) l h = cc h
+head_none (Ok k) l h = cc h

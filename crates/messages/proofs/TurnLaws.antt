@@ -1,12 +1,14 @@
 -- Between two records: what was lent well is good, what is good fits each kind's code, a record leaves what is good good, and the rules' outcome is what the code leaves.
 -- Assumes nothing.
-use Rattle.std.proofs.Common.{◌≡◌, ℕ, zero, suc, ◌+◌, ◌<◌, ◌≤◌, Bool, true, false, cond, ◌&&◌, ◌||◌, eqb, List, [], ◌∷◌, length, replicate, ℤ, ◌+ℤ◌, neg_ℤ, sym, refl, ap, ◌∙◌, subst, ap₂, inl, inr, arith, eqb-true}
+use Rattle.std.proofs.Common.{◌≡◌, ℕ, zero, suc, ◌+◌, ◌*◌, ◌<◌, ◌≤◌, Bool, true, false, cond, ◌&&◌, ◌||◌, eqb, List, [], ◌∷◌, length, replicate, ℤ, ◌+ℤ◌, neg_ℤ, sym, refl, ap, ◌∙◌, subst, ap₂, inl, inr, arith, eqb-true}
 use Rattle.integers.specs.Places.{every}
 use Rattle.integers.specs.Checks.{within}
 use Rattle.integers.specs.Rows.{add_at}
 use Rattle.integers.proofs.Places.{by-test, and_true, by_cond}
 use Rattle.instance.specs.Instance.{Instance, first, node_cells}
 use Rattle.instance.specs.Sheet.{instance_of}
+use Rattle.instance.specs.declared.refusal.Refusal.{Refusal}
+use Rattle.instance.specs.Refusal.{number}
 use Rattle.instance.proofs.Readable as sheet
 use Rattle.instance.proofs.LaidOut.{row_inside}
 use Rattle.instance.specs.Readable.{Proper}
@@ -14,22 +16,24 @@ use Rattle.rules.specs.Costs.{Buffers, costs_of, in_range, Sized}
 use Rattle.rules.specs.Messages.{node_to_edge, edge_to_node, node_to_label, label_to_node, to_label, deltas, shift}
 use mathlib.Core.Option.{Option, none, some}
 use Rattle.rules.specs.Rounding.{round}
-use Rattle.rules.specs.Run.{Kind, message, rounding, unknown, Outcome, refused, done, rounded, checked, effect, legal_message, legal_edge, legal_position}
+use Rattle.rules.specs.Run.{Kind, message, rounding, unknown, kind_of, Outcome, refused, done, rounded, checked, effect, legal_message, legal_edge, legal_position}
 use Rattle.rules.specs.Calls.{cost_limit, incumbent_ok, lent_refusal}
 use Rattle.rules.proofs.Bridge.{moved_label, touched_label}
 use Rattle.rules.proofs.Run.{Done, Ranged, legal_edge_is, legal_position_is, effect_later, effect_range}
 use Rattle.rules.proofs.Calls.{is_matching_lem, incumbent_ok_lem, lengths_ok_lem}
 use Rattle.messages.specs.Lent.{lent, NodeFits, EdgeFits}
-use Rattle.messages.specs.Step.{Settled, settle, settled}
+use Rattle.messages.specs.Step.{Settled, settle, settled, settled_by}
+use Rattle.std.specs.Prelude.{Err, slice_index}
 use Rattle.messages.specs.LabelMessage.{Moved, label_move, label_moved, label_given}
 use Rattle.messages.specs.EdgeRecord.{EdgeMove, edge_move, edge_moved}
 use Rattle.messages.specs.RoundRecord.{IncumbentFits}
 use Rattle.messages.specs.declared.records.Flow.{Flow}
 use Rattle.messages.specs.declared.records.Flow.TheVariants.{FromNode, ToNode}
-use Rattle.messages.specs.Records.{to_node, edge_message, label_message, label_taken, edge_taken}
+use Rattle.messages.specs.Records.{to_node, edge_message, label_message, kind_as, head_of, label_taken, edge_taken}
 use Rattle.messages.specs.Turn.{Good}
 use Rattle.rules.proofs.Opening.{lengths_are}
 use Rattle.messages.proofs.LentLaws.{LentWell, lent_good, lent_well, fit_of}
+use Rattle.messages.proofs.KindLaws.{kind_unknown, head_none}
 use Rattle.messages.proofs.EdgeRecordLaws.{edge_settled, edge_settled_lem}
 
 -- ---- what was lent well is good
@@ -172,3 +176,9 @@ module _ {s : List ℕ} {limit : ℕ} {b : Buffers} (g : Good s limit b) where
 pub none_turn : (I : Instance) (limit : ℕ) (b : Buffers) (u k r : ℕ) → settle b 0 12 ≡ settled b (effect I limit b unknown u k r)
 unfolding effect
 none_turn I limit b u k r = refl
+
+-- a record that is refused for its kind
+pub unknown_turn : (I : Instance) (limit : ℕ) (b : Buffers) (l : List ℕ) (e : Refusal) → Err e ≡ head_of l → settle b 0 (number e) ≡ settled_by I limit b l
+unknown_turn I limit b l e h =
+    let (k, q) = kind_unknown (kind_of (slice_index l 0)) (head_none (kind_as (kind_of (slice_index l 0))) l h) in
+    rw (q, k) (none_turn I limit b (slice_index l 1) (slice_index l 2 + 256 * slice_index l 3) (slice_index l 4))

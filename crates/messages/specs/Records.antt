@@ -1,5 +1,7 @@
 -- One record, kind by kind: refused with 12 where what it names does not exist, else what its kind leaves.
-use Rattle.std.specs.Prelude.{Option, Some, None, ℕ, ◌+◌, ◌*◌, Bool, true, false, cond, List, ℤ, slice_index}
+use Rattle.std.specs.Prelude.{Result, Ok, Err, ℕ, ◌+◌, ◌*◌, Bool, true, false, cond, List, ℤ, slice_index}
+use Rattle.instance.specs.declared.refusal.Refusal.{Refusal}
+use Rattle.instance.specs.declared.refusal.Refusal.TheVariants.{NoSuchRecord}
 use Rattle.instance.specs.Instance.{Instance, first}
 use Rattle.rules.specs.Messages as rules
 use Rattle.rules.specs.Run as runs
@@ -26,24 +28,24 @@ abbrev pub label_message : Flow → rules.Message
 label_message FromNode = rules.node_to_label
 label_message ToNode = rules.label_to_node
 
--- the rules' kind as the code has it: none for one that does not exist
+-- the rules' kind as the code has it: refused for one that does not exist
 abbrev pub message_as : rules.Message → Kind
 message_as rules.node_to_edge = Edge FromNode
 message_as rules.edge_to_node = Edge ToNode
 message_as rules.node_to_label = Label FromNode
 message_as rules.label_to_node = Label ToNode
 
-abbrev pub kind_as : runs.Kind → Option Kind
-kind_as (runs.message m) = Some (message_as m)
-kind_as runs.rounding = Some Rounding
-kind_as runs.unknown = None
+abbrev pub kind_as : runs.Kind → Result Kind Refusal
+kind_as (runs.message m) = Ok (message_as m)
+kind_as runs.rounding = Ok Rounding
+kind_as runs.unknown = Err NoSuchRecord
 
 -- five bytes as a kind and what a record of it names, if there is such a kind
-abbrev pub head_by : Option Kind → List ℕ → Option (Kind × Record)
-head_by None l = None
-head_by (Some kind) l = Some (kind, record { node = slice_index l 1; index = slice_index l 2 + 256 * slice_index l 3; share = slice_index l 4 })
+abbrev pub head_by : Result Kind Refusal → List ℕ → Result (Kind × Record) Refusal
+head_by (Err e) l = Err e
+head_by (Ok kind) l = Ok (kind, record { node = slice_index l 1; index = slice_index l 2 + 256 * slice_index l 3; share = slice_index l 4 })
 
-abbrev pub head_of : List ℕ → Option (Kind × Record)
+abbrev pub head_of : List ℕ → Result (Kind × Record) Refusal
 head_of l = head_by (kind_as (kind_of (slice_index l 0))) l
 
 -- kind 3, or turned round kind 4

@@ -28,20 +28,21 @@ pub(crate) enum Kind {
     Rounding,
 }
 
-impl Kind {
-    // The kind by its number.
-    // Kept: a function to an `Option`, which its one caller takes apart at once; the error of a `TryFrom` would be named nowhere.
+// The kind by its number.
+impl TryFrom<u8> for Kind {
+    type Error = Refusal;
+
+    ghost try_from_gives = { λ number r. r ≡ kind_as (kind_of number) };
+
     #[tactic(auto, using(crate::proofs::KindLaws::kind_past), unfolding(rules::specs::Run::kind_of))]
-    fn of(number: u8) -> Option<Kind>
-        ensures { result ≡ kind_as (kind_of number) }
-    {
+    fn try_from(number: u8) -> Result<Kind, Refusal> {
         match number {
-            1 => Some(Kind::Edge(Flow::FromNode)),
-            2 => Some(Kind::Edge(Flow::ToNode)),
-            3 => Some(Kind::Label(Flow::FromNode)),
-            4 => Some(Kind::Label(Flow::ToNode)),
-            5 => Some(Kind::Rounding),
-            _ => None,
+            1 => Ok(Kind::Edge(Flow::FromNode)),
+            2 => Ok(Kind::Edge(Flow::ToNode)),
+            3 => Ok(Kind::Label(Flow::FromNode)),
+            4 => Ok(Kind::Label(Flow::ToNode)),
+            5 => Ok(Kind::Rounding),
+            _ => Err(Refusal::NoSuchRecord),
         }
     }
 }
@@ -55,8 +56,8 @@ pub(crate) struct Record {
 }
 
 impl Record {
-    // The record in five bytes: kind, node, index in two bytes, share. None if there is no such kind.
-    pub(crate) fn of(bytes: &[u8; 5]) -> Option<(Kind, Record)>
+    // The record in five bytes: kind, node, index in two bytes, share. Refused if there is no such kind.
+    pub(crate) fn of(bytes: &[u8; 5]) -> Result<(Kind, Record), Refusal>
         ensures { result ≡ head_of bytes.now }
     {
         let [number, node, low, high, share] = *bytes;
@@ -65,7 +66,7 @@ impl Record {
             index: usize::from(u16::from_le_bytes([low, high])),
             share,
         };
-        Some((Kind::of(number)?, named))
+        Ok((Kind::try_from(number)?, named))
     }
 }
 

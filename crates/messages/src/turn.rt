@@ -11,14 +11,11 @@ use instance::Refusal;
 impl State<'_> {
     // A record in five bytes; a kind that does not exist is refused. How many roundings were stuck, 0 or 1.
     // Kept: a count, as a run adds them up.
-    #[tactic(auto, using(crate::proofs::KindLaws::head_none, crate::proofs::KindLaws::kind_unknown, crate::proofs::TurnLaws::none_turn))]
     pub(crate) fn one_record(&mut self, bytes: &[u8; 5]) -> Result<usize, Refusal>
         ensures same { Same self.old self.new }
         ensures left { settle (buffers_in self.new) (stuck_in result) (refused_in result) ≡ settled_by (instance_in self.old) (limit_in self.old) (buffers_in self.old) bytes.now }
     {
-        let Some((kind, step)) = Record::of(bytes) else {
-            return Err(Refusal::NoSuchRecord);
-        };
+        let (kind, step) = Record::of(bytes)?;
         match kind {
             Kind::Edge(flow) => self.edge_record(flow, step)?,
             Kind::Label(flow) => self.label_record(flow, step)?,
