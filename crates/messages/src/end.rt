@@ -1,12 +1,12 @@
-// The two ends of an edge.
+// The two ends of an edge, by where they stand in its two bytes.
 ghost use Rattle.std.specs.Prelude.{◌≡◌, cond, nat_eq};
 ghost use Rattle.messages.specs.EdgeMessage.{by_rows};
 
 // Each position of the lower end has a row of the edge's table, each of the higher a column.
 #[derive(Clone, Copy)]
-pub(crate) enum End {
-    Lower,
-    Higher,
+pub enum End {
+    Lower = 0,
+    Higher = 1,
 }
 
 impl End {

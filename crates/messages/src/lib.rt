@@ -29,6 +29,7 @@ mod turn;
 mod usable;
 
 pub use answers::{Answer, Report};
+pub use end::End;
 pub use list::run;
 pub use opening::open;
 pub use reporting::report;
