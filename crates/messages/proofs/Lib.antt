@@ -8,6 +8,7 @@ pub mod EndLaws
 pub mod SumLaws
 pub mod BoundLaws
 pub mod LabelLaws
+pub mod IndexLaws
 pub mod LabelMessageLaws
 pub mod UnusedLaws
 pub mod IncumbentLaws

@@ -5,6 +5,7 @@ pub mod LabelMessage
 pub mod Incumbent
 pub mod Clash
 pub mod EdgeMessage
+pub mod Indexes
 pub mod Rounded
 pub mod RoundRecord
 pub mod Answers

@@ -11,6 +11,7 @@ mod edge_record;
 mod end;
 mod filling;
 mod incumbent;
+mod indexes;
 mod label_message;
 mod labelled;
 mod lent;
@@ -30,6 +31,7 @@ mod usable;
 
 pub use answers::{Answer, Report};
 pub use end::End;
+pub use indexes::{edges_by, places_by_label};
 pub use list::run;
 pub use opening::open;
 pub use reporting::report;

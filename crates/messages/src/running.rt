@@ -3,6 +3,8 @@ ghost use Rattle.std.specs.Prelude.{◌≡◌};
 ghost use Rattle.messages.specs.LabelMessage.{Holders};
 ghost use Rattle.messages.specs.Rounded.{Lowers};
 
+use crate::end::End;
+use crate::indexes::{edges_by, places_by_label};
 use crate::limit::Limit;
 use index::Index;
 use instance::Sheet;
@@ -21,9 +23,8 @@ impl<'a> Run<'a> {
     pub(crate) fn new(sheet: Sheet<'a>, limit: Limit) -> Run<'a>
         ensures { (result.sheet.bytes ≡ sheet.entry.bytes) × (result.limit.most ≡ limit.most) }
     {
-        let holders = Index::of(&sheet.bytes[sheet.nodes..sheet.prices], 1);
-        // the higher ends are every second byte behind the first lower end
-        let lowers = Index::of(&sheet.bytes[sheet.ends + 1..sheet.edge_prices + 1], 2);
+        let holders = places_by_label(&sheet);
+        let lowers = edges_by(&sheet, End::Higher);
         Run {
             sheet,
             limit,

@@ -1,0 +1,50 @@
+-- The indexes of a sheet, as they are made of its bytes.
+-- Assumes nothing.
+use Rattle.std.proofs.Common.{◌≡◌, ℕ, ◌+◌, ◌-◌, ◌*◌, ◌≤◌, List, length, take, drop, refl, sym, subst, arith}
+use denote.Enum.Declared.{tag_of}
+use Rattle.instance.specs.declared.sheet.Sheet.{Sheet}
+use Rattle.instance.specs.Instance.{Instance, first, node_cells}
+use Rattle.instance.specs.Sheet.{instance_of}
+use Rattle.instance.proofs.Indexes.{labels_indexed, highs_indexed, lows_indexed}
+use Rattle.instance.proofs.Sheets.{whole, nodes_is, edges_is}
+use Rattle.index.specs.Index.{index_of, Indexed}
+use Rattle.messages.specs.contracts.end.End.{the_type as end_type}
+use Rattle.messages.specs.declared.end.End.{End}
+use Rattle.messages.specs.declared.end.End.TheVariants.{Lower, Higher}
+use Rattle.messages.specs.LabelMessage.{Holders}
+use Rattle.messages.specs.Indexes.{node_at, Ended}
+
+-- the first byte of an edge is its lower end, the second its higher
+pub end_few : (e : End) → tag_of end_type e ≤ 1
+end_few Lower = omega arith
+end_few Higher = omega arith
+
+module _ (x : Sheet) where
+  abbrev s : List ℕ
+  s = x.bytes.now
+
+  abbrev I : Instance
+  I = instance_of s
+
+  -- the labels stand between the degrees and the node prices
+  pub labels_between : x.prices ≡ x.nodes + node_cells I
+  unfolding first instance_of
+  labels_between = omega (arith, x.placed.0, nodes_is x)
+
+  -- the ends stand in the sheet, with a byte behind them
+  pub ends_inside : x.ends + 1 + 2 * x.edges ≤ length s
+  unfolding first instance_of
+  ends_inside = omega (arith, x.placed.1, edges_is x, (whole x).whole)
+
+  pub holders_made : {l : List ℕ} → l ≡ index_of (take (x.prices - x.nodes) (drop x.nodes s)) 1 → Holders s l
+  holders_made e =
+      let f : x.prices - x.nodes ≡ node_cells I = omega (arith, labels_between) in
+      subst (Indexed I.label (node_cells I)) (sym e) (labels_indexed s x.readable (nodes_is x) f)
+
+  pub ended_made : (e : End) {l : List ℕ} {size : ℕ} → size ≡ 2 * x.edges → l ≡ index_of (take size (drop (x.ends + tag_of end_type e) s)) 2 → Ended s e l
+  ended_made Lower {l} {size} f q =
+      let z : size ≡ 2 * I.edge_count = omega (arith, edges_is x) in
+      subst (Indexed I.low I.edge_count) (sym q) (lows_indexed s x.readable (omega (arith, x.placed.1)) z)
+  ended_made Higher {l} {size} f q =
+      let z : size ≡ 2 * I.edge_count = omega (arith, edges_is x) in
+      subst (Indexed I.high I.edge_count) (sym q) (highs_indexed s x.readable x.placed.1 z)

@@ -1,0 +1,25 @@
+// The indexes by which a sheet is gone through: of its places by their labels, and of its edges by one of their ends.
+ghost use Rattle.std.specs.Prelude.{◌≡◌};
+ghost use Rattle.messages.specs.LabelMessage.{Holders};
+ghost use Rattle.messages.specs.Indexes.{Ended};
+
+use crate::end::End;
+use index::Index;
+use instance::Sheet;
+
+// The places by their labels.
+pub fn places_by_label(sheet: &Sheet) -> Index
+    ensures { Holders sheet.now.bytes.now result }
+{
+    Index::of(&sheet.bytes[sheet.nodes..sheet.prices], 1)
+}
+
+// The edges by one of their ends, of which every second byte is one.
+pub fn edges_by(sheet: &Sheet, end: End) -> Index
+    ensures { Ended sheet.now.bytes.now end result }
+{
+    // Kept: `as`, which is how Rust reads a variant's number.
+    let from = sheet.ends + end as usize;
+    let past = from + 2 * sheet.edges;
+    Index::of(&sheet.bytes[from..past], 2)
+}
