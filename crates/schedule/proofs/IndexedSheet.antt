@@ -8,24 +8,19 @@ use lib.ListN.{length}
 use Rattle.integers.specs.Places.{range, offset}
 use Rattle.integers.proofs.Places.{length-range}
 use Rattle.instance.specs.Instance.{Instance, first, node_cells}
-use Rattle.instance.specs.Sheet.{instance_of, ends_at}
+use Rattle.instance.specs.Sheet.{instance_of}
 use Rattle.instance.specs.declared.sheet.Sheet.{Sheet}
 use Rattle.instance.proofs.LaidOut.{positions_few_lem}
 use Rattle.instance.proofs.Sheets.{proper, nodes_is, labels_is, edges_is, nodes_few, labels_few, node_there}
-use Rattle.instance.proofs.Indexes.{highs_indexed, lows_indexed}
 use Rattle.index.specs.Index.{many, held, Indexed}
 use Rattle.index.proofs.Indexed.{many_is}
 use Rattle.schedule.specs.declared.labels.Spot.{Spot}
 use Rattle.schedule.specs.Sweep.{entry, each, falling, from_edges, to_edges, from_label, to_lower, to_higher, exclusive_positions, forward_at, label_at, backward_at, vanished, sweep_records, sweep_length}
-use Rattle.schedule.specs.Writing.{Rows, Spots, edges_by, spotted, exclusive_count, forward_of, backward_by, label_by}
+use Rattle.schedule.specs.Writing.{Rows, Spots, spotted, exclusive_count, forward_of, backward_by, label_by}
 use Rattle.schedule.proofs.WritingLaws.{each_ext, mem_below, falling_mem}
 use Rattle.schedule.proofs.CountLaws.{offset_ext}
 use Rattle.schedule.proofs.Lengths.{all_exclusive}
 use Rattle.schedule.proofs.LabelLaws.{label_list, exclusive_positions_lem}
-
--- an index in other words
-indexed_as : {key : ℕ → ℕ} {m : ℕ} {k l : List ℕ} → l ≡ k → Indexed key m k → Indexed key m l
-indexed_as {key} {m} e x = subst (Indexed key m) (sym e) x
 
 -- an index whose things are few
 rows_of : {key : ℕ → ℕ} {m bound : ℕ} {index : List ℕ} → Indexed key m index → m ≤ bound → Rows index bound
@@ -52,12 +47,6 @@ module _ (x : Sheet) where
   length_is = omega (arith, exclusive_nodes, edges_is x)
 
   -- ---- the edges by their higher ends, and by their lower
-
-  pub lower_indexed : {l : List ℕ} → l ≡ edges_by x.bytes.now 1 → Indexed I.high I.edge_count l
-  lower_indexed e = indexed_as e (highs_indexed x.bytes.now x.readable refl refl)
-
-  pub higher_indexed : {l : List ℕ} → l ≡ edges_by x.bytes.now 0 → Indexed I.low I.edge_count l
-  higher_indexed e = let a : ends_at x.bytes.now + 0 ≡ ends_at x.bytes.now = omega arith in indexed_as e (lows_indexed x.bytes.now x.readable a refl)
 
   module _ {lower higher : List ℕ} (a : Indexed I.high I.edge_count lower) (b : Indexed I.low I.edge_count higher) where
     -- a node's edges

@@ -2,24 +2,17 @@
 -- Assumes nothing.
 use mathlib.Core.Path.{◌≡◌, refl}
 use mathlib.Core.List.{List, [], ◌∷◌}
-use Prim.Native.Nat.{ℕ, ◌+◌, ◌/◌, ◌%◌, ◌≤◌, ◌<◌}
+use Prim.Native.Nat.{ℕ, ◌+◌, ◌/◌, ◌%◌, ◌<◌}
 use native.Mathlib.Omega.{arith}
 use denote.Enum.Declared.{tag_of}
 use lib.ListN.{get_or}
 use Rattle.std.proofs.Common.{w16}
 use Rattle.std.specs.Int.{to_le_bytes}
-use Rattle.schedule.specs.contracts.sweep.End.{the_type as end_type}
 use Rattle.schedule.specs.contracts.writer.Kind.{the_type as kind_type}
-use Rattle.schedule.specs.declared.sweep.End.{End}
-use Rattle.schedule.specs.declared.sweep.End.TheVariants.{Lower, Higher}
 use Rattle.schedule.specs.declared.writer.Kind.{Kind}
 use Rattle.schedule.specs.declared.writer.Kind.TheVariants.{ToEdge, FromEdge, ToLabel, FromLabel, Round}
 use Rattle.schedule.specs.Sweep.{entry, bytes}
-use Rattle.schedule.specs.Writing.{end_place, kind_number}
-
-pub end_few : (e : End) → (tag_of end_type e ≡ end_place e) × (end_place e ≤ 1)
-end_few Lower = (refl, omega arith)
-end_few Higher = (refl, omega arith)
+use Rattle.schedule.specs.Writing.{kind_number}
 
 kind_is : (k : Kind) → tag_of kind_type k + 1 ≡ kind_number k
 kind_is ToEdge = refl

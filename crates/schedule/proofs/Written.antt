@@ -8,11 +8,13 @@ use native.Mathlib.Omega.{arith}
 use borrow.Author.Tests.{eq-eqb, ne_eqb, eqb-true}
 use lib.Dec.{eqb}
 use lib.ListN.{length}
-use Rattle.std.proofs.Common.{Some, None}
+use Rattle.std.proofs.Common.{Ok, Err}
 use Rattle.integers.specs.Places.{range}
 use Rattle.integers.specs.Checks.{first_failure}
 use Rattle.integers.proofs.Places.{by-test, by_cond, if-true, if-false}
 use Rattle.integers.proofs.Checks.{failure_append, passes, fails}
+use Rattle.instance.specs.declared.refusal.Refusal.{Refusal}
+use Rattle.instance.specs.declared.refusal.Refusal.TheVariants.{NoSuchRecord}
 use Rattle.instance.specs.Instance.{Instance}
 use Rattle.instance.specs.Sheet.{instance_of, checks, refusal_of}
 use Rattle.instance.proofs.Readable.{readable}
@@ -26,23 +28,23 @@ use Rattle.schedule.specs.Written.{written, sweep_room, own_checks, sweep_refusa
 
 -- a direction, by its number
 module _ (n : ℕ) where
-  pub direction_known : {d : Direction} → Some d ≡ direction_of n → (known n ≡ true) × (n ≡ direction_number d)
+  pub direction_known : {d : Direction} → Ok d ≡ direction_of n → (known n ≡ true) × (n ≡ direction_number d)
   unfolding known direction_of
   direction_known {d} e =
       by-test (eqb n 0)
-      (λ t. let f : Some d ≡ Some Forward = e ∙ if-true _ _ t in let q : d ≡ Forward = cc in (rw t, eqb-true n 0 t ∙ sym (ap direction_number q)))
+      (λ t. let f : Ok d ≡ Ok Forward = e ∙ if-true _ _ t in let q : d ≡ Forward = cc in (rw t, eqb-true n 0 t ∙ sym (ap direction_number q)))
       (λ t. by-test (eqb n 1)
-      (λ u. let f : Some d ≡ Some Backward = e ∙ if-false _ _ t ∙ if-true _ _ u in let q : d ≡ Backward = cc in (rw (t, u), eqb-true n 1 u ∙ sym (ap direction_number q)))
-      (λ u. let f : Some d ≡ None = e ∙ if-false _ _ t ∙ if-false _ _ u in absurd (cc)))
+      (λ u. let f : Ok d ≡ Ok Backward = e ∙ if-false _ _ t ∙ if-true _ _ u in let q : d ≡ Backward = cc in (rw (t, u), eqb-true n 1 u ∙ sym (ap direction_number q)))
+      (λ u. let f : Ok d ≡ Err NoSuchRecord = e ∙ if-false _ _ t ∙ if-false _ _ u in absurd (cc)))
 
-  pub direction_unknown : None ≡ direction_of n → known n ≡ false
+  pub direction_unknown : {r : Refusal} → Err r ≡ direction_of n → (known n ≡ false) × (r ≡ NoSuchRecord)
   unfolding known direction_of
-  direction_unknown e =
+  direction_unknown {r} e =
       by-test (eqb n 0)
-      (λ t. let f : None ≡ Some Forward = e ∙ if-true _ _ t in absurd (cc))
+      (λ t. let f : Err r ≡ Ok Forward = e ∙ if-true _ _ t in absurd (cc))
       (λ t. by-test (eqb n 1)
-      (λ u. let f : None ≡ Some Backward = e ∙ if-false _ _ t ∙ if-true _ _ u in absurd (cc))
-      (λ u. rw (t, u)))
+      (λ u. let f : Err r ≡ Ok Backward = e ∙ if-false _ _ t ∙ if-true _ _ u in absurd (cc))
+      (λ u. let f : Err r ≡ Err NoSuchRecord = e ∙ if-false _ _ t ∙ if-false _ _ u in let q : r ≡ NoSuchRecord = cc in (rw (t, u), q)))
 
 module _ (I : Instance) where
   -- a sweep without its rounding

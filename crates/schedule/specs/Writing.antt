@@ -1,14 +1,13 @@
 -- Contracts of the private functions: writing records one after another, and the records as the indexes have them.
-use Rattle.std.specs.Prelude.{◌≡◌, cond, List, ◌++◌, map, Option, Some, None, ℕ, ◌+◌, ◌-◌, ◌*◌, ◌≤◌, ◌<◌, eqb, length, get_or, take, drop}
+use Rattle.std.specs.Prelude.{◌≡◌, cond, List, ◌++◌, map, Result, Ok, Err, ℕ, ◌+◌, ◌-◌, ◌*◌, ◌≤◌, ◌<◌, eqb, length, get_or, take, drop}
 use Rattle.integers.specs.Places.{range, offset}
+use Rattle.instance.specs.declared.refusal.Refusal.{Refusal}
+use Rattle.instance.specs.declared.refusal.Refusal.TheVariants.{NoSuchRecord}
 use Rattle.instance.specs.Instance.{Instance, exclusive, first}
-use Rattle.instance.specs.Sheet.{instance_of, ends_at}
-use Rattle.index.specs.Index.{many, held, index_of}
+use Rattle.index.specs.Index.{many, held}
 use Rattle.schedule.specs.declared.labels.Spot.{Spot}
 use Rattle.schedule.specs.declared.sweep.Direction.{Direction}
 use Rattle.schedule.specs.declared.sweep.Direction.TheVariants.{Forward, Backward}
-use Rattle.schedule.specs.declared.sweep.End.{End}
-use Rattle.schedule.specs.declared.sweep.End.TheVariants.{Lower, Higher}
 use Rattle.schedule.specs.declared.writer.Kind.{Kind}
 use Rattle.schedule.specs.declared.writer.Kind.TheVariants.{ToEdge, FromEdge, ToLabel, FromLabel, Round}
 use Rattle.schedule.specs.declared.writer.Writer.{Writer}
@@ -38,13 +37,9 @@ abbrev pub direction_number : Direction → ℕ
 direction_number Forward = 0
 direction_number Backward = 1
 
-unfoldable pub direction_of : ℕ → Option Direction
-direction_of n = cond (eqb n 0) (Some Forward) (cond (eqb n 1) (Some Backward) None)
-
--- where an end of an edge stands in its two bytes
-abbrev pub end_place : End → ℕ
-end_place Lower = 0
-end_place Higher = 1
+-- the direction by its number, refused with 12 where there is none
+unfoldable pub direction_of : ℕ → Result Direction Refusal
+direction_of n = cond (eqb n 0) (Ok Forward) (cond (eqb n 1) (Ok Backward) (Err NoSuchRecord))
 
 -- ---- the records as the indexes have them
 
@@ -95,7 +90,3 @@ spotted spots i = let s = get_or spots i (spot 0 0) in entry 4 s.node s.position
 
 abbrev pub label_by : List ℕ → List Spot → ℕ → List Entry
 label_by places spots l = map (spotted spots) (held places l)
-
--- the index of a sheet's edges by their lower (0) or by their higher (1) ends, every second byte
-abbrev pub edges_by : List ℕ → ℕ → List ℕ
-edges_by s end = index_of (take (2 * (instance_of s).edge_count) (drop (ends_at s + end) s)) 2

@@ -1,17 +1,17 @@
 // The two sweeps, and the public calls.
-ghost use Rattle.std.specs.Prelude.{◌≡◌, ◌+◌, ◌*◌, ◌<◌, ◌≤◌, length};
+ghost use Rattle.std.specs.Prelude.{◌≡◌, ◌+◌, ◌*◌, ◌≤◌, length};
 ghost use Rattle.integers.specs.Places.{range};
 ghost use Rattle.instance.specs.Refusal.{refused_in};
 ghost use Rattle.instance.specs.Sheet.{instance_of};
 ghost use Rattle.schedule.specs.Sweep.{label_at, each, falling, sweep, sweep_length};
 ghost use Rattle.schedule.specs.Written.{written, sweep_of, sweep_room};
-ghost use Rattle.schedule.specs.Writing.{Wrote, Room, edges_by, direction_of, direction_number, end_place, forward_of, backward_by};
+ghost use Rattle.schedule.specs.Writing.{Wrote, Room, direction_of, direction_number, forward_of, backward_by};
 
 use crate::edges::pass;
 use crate::labels::{exclusive_places, exclusive_positions, from_labels, spots, to_labels};
 use crate::writer::{Kind, Writer};
 use index::Index;
-use messages::{Refusal, Sheet};
+use messages::{End, Refusal, Sheet, edges_by, places_by_label};
 
 // The two directions, by their numbers.
 #[derive(Clone, Copy)]
@@ -20,34 +20,19 @@ pub(crate) enum Direction {
     Backward = 1,
 }
 
-// Kept: a function to an `Option`, which its one caller takes apart at once; the error of a `TryFrom` would be named nowhere.
-#[tactic(auto, unfolding(crate::specs::Writing::direction_of))]
-fn direction_of(number: u8) -> Option<Direction>
-    ensures { result ≡ direction_of number }
-{
-    match number {
-        0 => Some(Direction::Forward),
-        1 => Some(Direction::Backward),
-        _ => None,
+impl TryFrom<u8> for Direction {
+    type Error = Refusal;
+
+    ghost try_from_gives = { λ number r. r ≡ direction_of number };
+
+    #[tactic(auto, unfolding(crate::specs::Writing::direction_of))]
+    fn try_from(number: u8) -> Result<Direction, Refusal> {
+        match number {
+            0 => Ok(Direction::Forward),
+            1 => Ok(Direction::Backward),
+            _ => Err(Refusal::NoSuchRecord),
+        }
     }
-}
-
-// The two ends of an edge, by where they stand in its bytes.
-// Kept: beside `End` of `messages`, which is about rows and columns; neither crate shows its own.
-#[derive(Clone, Copy)]
-pub(crate) enum End {
-    Lower = 0,
-    Higher = 1,
-}
-
-// The edges by one of their ends.
-fn edges_by(sheet: &Sheet, end: End) -> Index
-    ensures { result ≡ edges_by sheet.now.bytes.now (end_place end) }
-{
-    // Kept: `as`, which is how Rust reads a variant's number.
-    let from = sheet.ends + end as usize;
-    let past = from + 2 * sheet.edges;
-    Index::of(&sheet.bytes[from..past], 2)
 }
 
 // The nodes, rising: from the edges to lower nodes, to those to higher nodes, to the labels.
@@ -68,7 +53,7 @@ fn backward_labels(sheet: &Sheet, w: &mut Writer)
     requires { Room w.old (length (each (label_at (instance_of sheet.now.bytes.now)) (falling (instance_of sheet.now.bytes.now).label_count))) }
     ensures { Wrote w.old (each (label_at (instance_of sheet.now.bytes.now)) (falling (instance_of sheet.now.bytes.now).label_count)) w.new }
 {
-    let places = Index::of(&sheet.bytes[sheet.nodes..sheet.prices], 1);
+    let places = places_by_label(sheet);
     from_labels(&places, &spots(sheet), sheet.labels, w);
 }
 
@@ -128,14 +113,14 @@ pub fn sweep_length(sheet: &[u8]) -> usize
 }
 
 // Writes the forward (0) or the backward (1) sweep of a sheet into a buffer of exactly its length.
-// Kept: the direction is any byte, and 12 for another comes after the sheet's refusals; a narrower type would ask more of callers.
+// Refused with the sheet's own number where the sheet is, then with 12 for a direction that is none, then with 8 for a buffer of another
+// length: `sweep_of` says which. What is refused leaves the buffer as it was.
+// Kept: the direction is any byte, since 12 for another comes after the sheet's refusals; a narrower type would ask more of callers.
 pub fn write_sweep(sheet: &[u8], direction: u8, out: &mut [u8]) -> Result<(), Refusal>
     ensures { written out.new (refused_in result) ≡ sweep_of sheet.now direction out.old }
 {
     let sheet = Sheet::read(sheet)?;
-    let Some(direction) = direction_of(direction) else {
-        return Err(Refusal::NoSuchRecord);
-    };
+    let direction = Direction::try_from(direction)?;
     if out.len() != length_of(&sheet) {
         return Err(Refusal::BufferLength);
     }

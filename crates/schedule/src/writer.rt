@@ -1,7 +1,7 @@
 // Writing records one after another.
 
 // The kinds of records, by their numbers.
-// Kept: beside `Kind` of `messages`, which says what a record does, and has no numbers.
+// Kept: beside `Kind` of `messages`, which is its own: it is made from a number and says what a record does, and this one is written as its number.
 #[derive(Clone, Copy)]
 pub(crate) enum Kind {
     ToEdge = 1,

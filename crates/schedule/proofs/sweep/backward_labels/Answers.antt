@@ -13,11 +13,6 @@ use Rattle.schedule.proofs.IndexedSheet.{place_rows, label_lists}
 use Rattle.schedule.proofs.sweep.backward_labels.Goals as goal
 use Rattle.schedule.proofs.sweep.backward_labels.Goals.{After-spots}
 
--- the labels stand between the degrees and the node prices
-count : (x : Sheet) → x.prices ≡ x.nodes + node_cells (instance_of x.bytes.now)
-unfolding first instance_of
-count x = omega (arith, x.placed.0, nodes_is x)
-
 -- the places by label
 module _ (p : After-spots) where
   abbrev x : Sheet
@@ -26,26 +21,12 @@ module _ (p : After-spots) where
   abbrev I : Instance
   I = instance_of x.bytes.now
 
-  placed : Indexed I.label (node_cells I) p.of-places.result
-  placed =
-      let e : x.prices - x.nodes ≡ node_cells I = omega (arith, count x) in
-      subst (Indexed I.label (node_cells I)) (sym p.of-places.ensures) (labels_indexed x.bytes.now x.readable (nodes_is x) e)
-
-  lists : each (label_by p.of-places.result p.spots.result) (falling x.labels) ≡ each (label_at I) (falling I.label_count)
-  lists = label_lists x placed p.spots.ensures
-
-pub slice_bounds-of-count : goal.slice_bounds-of-count
-slice_bounds-of-count c = omega (arith, count c.args.sheet.now)
-
-pub slice_bounds-of-start : goal.slice_bounds-of-start
-slice_bounds-of-start c = omega (arith, count c.args.sheet.now)
-
-pub slice_bounds-of-end : goal.slice_bounds-of-end
-slice_bounds-of-end c = let x = c.args.sheet.now in omega (arith, count x, nodes_is x, (whole x).whole)
+  lists : each (label_by p.places_by_label-places.result p.spots.result) (falling x.labels) ≡ each (label_at I) (falling I.label_count)
+  lists = label_lists x p.places_by_label-places.ensures p.spots.ensures
 
 pub from_labels-requires-clause-rows : goal.from_labels-requires-clause-rows
 from_labels-requires-clause-rows c =
-    let p = (goal.at.from_labels-requires-clause-rows c).After-spots in place_rows (x p) (placed p) c.spots.ensures
+    let p = (goal.at.from_labels-requires-clause-rows c).After-spots in place_rows (x p) p.places_by_label-places.ensures c.spots.ensures
 
 pub from_labels-requires-clause-labels_bound : goal.from_labels-requires-clause-labels_bound
 from_labels-requires-clause-labels_bound c = labels_few c.args.sheet.now

@@ -14,7 +14,7 @@ use Rattle.schedule.specs.Sweep.{Entry, each, falling, label_at, backward_at, ro
 use Rattle.schedule.specs.Writing.{Wrote, direction_number, forward_of, backward_by}
 use Rattle.instance.proofs.Sheets.{nodes_few}
 use Rattle.schedule.proofs.WritingLaws.{wrote_append, wrote_as, room_left, room_for}
-use Rattle.schedule.proofs.IndexedSheet.{higher_indexed, lower_indexed, forward_nodes, backward_nodes}
+use Rattle.schedule.proofs.IndexedSheet.{forward_nodes, backward_nodes}
 use Rattle.schedule.proofs.Written.{body, sweep_is}
 use Rattle.schedule.proofs.sweep.whole.Goals as goal
 use Rattle.schedule.proofs.sweep.whole.Goals.{After-edges_by-higher, in-Forward, in-Backward}
@@ -25,10 +25,10 @@ module _ (p : After-edges_by-higher) where
   I = instance_of p.args.sheet.now.bytes.now
 
   lower : Indexed I.high I.edge_count p.edges_by-lower.result
-  lower = lower_indexed p.args.sheet.now p.edges_by-lower.ensures
+  lower = p.edges_by-lower.ensures
 
   higher : Indexed I.low I.edge_count p.edges_by-higher.result
-  higher = higher_indexed p.args.sheet.now p.edges_by-higher.ensures
+  higher = p.edges_by-higher.ensures
 
   size : length (sweep I (direction_number p.args.direction)) ≡ length (body I p.args.direction) + 1
   unfolding rounding
