@@ -1,6 +1,6 @@
 -- The parts of the lent costs, rows of nodes and tables of edges, and the bound as the sum over them.
 -- Assumes nothing.
-use Rattle.std.proofs.Common.{◌≡◌, ℕ, ◌+◌, ◌*◌, ◌≤◌, true, eqb, ltb, List, [], map, length, get_or, ℤ, pos, ◌+ℤ◌, nat_abs, sym, ap, ◌∙◌, arith, w64, SFits, ltb-false, ltb-true}
+use Rattle.std.proofs.Common.{◌≡◌, ℕ, ◌+◌, ◌*◌, ◌<◌, ◌≤◌, true, eqb, ltb, List, [], map, length, get_or, ℤ, pos, ◌+ℤ◌, nat_abs, sym, ap, ◌∙◌, arith, w64, SFits, ltb-false, ltb-true}
 use lib.ListN.{get_or-eq_default}
 use Rattle.integers.specs.Least.{least_from, least_of}
 use Rattle.integers.specs.Sum.{Within}
@@ -19,7 +19,7 @@ use Rattle.rules.specs.Calls.{cost_limit}
 use Rattle.rules.specs.Places.{node_places, label_places}
 use Rattle.rules.specs.Costs.{Buffers, costs_of, node_least, edge_least, label_least}
 use Rattle.instance.specs.declared.sheet.Sheet.{Sheet}
-use Rattle.instance.proofs.Sheets.{proper, nodes_is, labels_is, edges_is}
+use Rattle.instance.proofs.Sheets.{proper, nodes_is, labels_is, edges_is, start_is, table_is}
 use Rattle.messages.specs.Lent.{lent, NodeFits, EdgeFits}
 use Rattle.messages.specs.Bounds.{row_least, table_least, label_below, least_labels}
 use Rattle.messages.proofs.EndLaws.{usable_cells_lem}
@@ -41,6 +41,15 @@ module _ (x : Sheet) where
   pub edge_parts : {costs : List ℤ} → EdgeFits s costs → Parts (table_size I) costs x.edges
   unfolding table
   edge_parts f = record { long = f.size ∙ ap (offset (table_size I)) (sym (edges_is x)); within = f.range }
+
+  -- and where each begins
+  pub node_begins : {u : ℕ} → u < x.nodes → get_or x.starts u 0 ≡ offset I.degree u
+  unfolding first
+  node_begins h = start_is x h
+
+  pub edge_begins : {e : ℕ} → e < x.edges → get_or x.tables e 0 ≡ offset (table_size I) e
+  unfolding table
+  edge_begins h = table_is x h
 
 -- ---- the whole bound
 

@@ -35,37 +35,19 @@ pub record Parts (z : ℕ → ℕ) (l : List ℤ) (count : ℕ) : Type 0 where
   pub long : length l ≡ offset z count
   pub within : Within cost_limit l
 
--- after u parts, the next begins at `at`
-pub record Summed (z : ℕ → ℕ) (f : ℕ → ℤ) (count : ℕ) (sum : ℤ) (at u : ℕ) : Type 0 where
-  pub upto : u ≤ count
-  pub place : at ≡ offset z u
-  pub added : Added cost_limit f sum u
+-- the part u, which begins at `at`
+module _ {z : ℕ → ℕ} {l : List ℤ} {count at size u : ℕ} (p : Parts z l count) (h : u < count) (a : at ≡ offset z u) (e : size ≡ z u) where
+  pub part_inside : at + size ≤ length l
+  part_inside = omega (arith, a, offset_le z u count h, p.long)
 
-pub summed_none : (z : ℕ → ℕ) (f : ℕ → ℤ) (count : ℕ) → Summed z f count (pos 0) 0 0
-summed_none z f count = record { upto = omega arith; place = sym (offset_none z); added = added_none cost_limit f }
+  pub part_is : part l at (at + size - at) ≡ part l (offset z u) (z u)
+  part_is = let d : at + size - at ≡ z u = omega arith in ap₂ (λ (a n : ℕ). part l a n) a d
 
-module _ {z : ℕ → ℕ} {f : ℕ → ℤ} {count : ℕ} {sum : ℤ} {at u : ℕ} (s : Summed z f count sum at u) (h : u < count) (size : ℕ) (e : size ≡ z u) where
-  -- the part from `at` on
-  module _ {l : List ℤ} (p : Parts z l count) where
-    pub part_inside : at + size ≤ length l
-    part_inside = omega (arith, s.place, offset_le z u count h, p.long)
+  pub part_length : length (part l at (at + size - at)) ≡ z u
+  part_length = let d : at + size - at ≡ z u = omega arith in length_part l at (at + size - at) (omega (arith, part_inside)) ∙ d
 
-    pub part_is : part l at (at + size - at) ≡ part l (offset z u) (z u)
-    part_is = let d : at + size - at ≡ z u = omega arith in ap₂ (λ (a n : ℕ). part l a n) s.place d
-
-    pub part_length : length (part l at (at + size - at)) ≡ z u
-    part_length = let d : at + size - at ≡ z u = omega arith in length_part l at (at + size - at) (omega (arith, part_inside)) ∙ d
-
-    pub part_range : Within cost_limit (part l at (at + size - at))
-    part_range = within_part cost_limit at (at + size - at) l p.within
-
-  -- its term
-  module _ (x : ℤ) (small : nat_abs x ≤ cost_limit) where
-    pub summed_fits : count ≤ 1_024 → SFits w64 (sum +ℤ x)
-    summed_fits g = added_fits s.added x small (omega arith) (omega arith)
-
-    pub summed_more : x ≡ f u → Summed z f count (sum +ℤ x) (at + size) (u + 1)
-    summed_more q = record { upto = omega arith; place = omega (arith, s.place, offset_more z u); added = added_more s.added x small q }
+  pub part_range : Within cost_limit (part l at (at + size - at))
+  part_range = within_part cost_limit at (at + size - at) l p.within
 
 -- all of them
 pub added_all : {k : ℕ} {f : ℕ → ℤ} {sum : ℤ} {u count : ℕ} → Added k f sum u → u ≤ count → count ≤ u → (sum ≡ total count f) × (nat_abs sum ≤ count * k)

@@ -13,7 +13,7 @@ ghost use Rattle.messages.specs.EdgeMessage.{usable_cells};
 ghost use Rattle.messages.specs.Bounds.{row_least, table_least, least_labels};
 
 use crate::checked::Checked;
-use crate::rows::{least_of, plus};
+use crate::rows::least_of;
 use crate::usable::usable_least;
 use instance::Sheet;
 
@@ -23,11 +23,10 @@ fn node_sum(held: &Checked) -> i64
 {
     let sheet = held.sheet;
     let mut sum = 0;
-    let mut at = 0;
     for u in 0..sheet.nodes {
+        let at = sheet.starts[u];
         let to = at + sheet.degree(u);
-        sum = plus(sum, least_of(&held.lent.nodes[at..to]));
-        at = to;
+        sum += least_of(&held.lent.nodes[at..to]);
     }
     sum
 }
@@ -51,11 +50,10 @@ fn edge_sum(held: &Checked) -> i64
 {
     let sheet = held.sheet;
     let mut sum = 0;
-    let mut at = 0;
     for e in 0..sheet.edges {
+        let at = sheet.tables[e];
         let to = at + sheet.size(e);
-        sum = plus(sum, cell_least(sheet, &held.lent.edges[at..to], e));
-        at = to;
+        sum += cell_least(sheet, &held.lent.edges[at..to], e);
     }
     sum
 }
@@ -80,8 +78,8 @@ fn label_sum(least: &[i64; 256], count: usize) -> i64
     ensures { (result ≡ total count (λ l. slice_index_or least.now l (pos 0))) × (unsigned_abs result ≤ count * cost_limit) }
 {
     let mut sum = 0;
-    for l in 0..count {
-        sum = plus(sum, least[l]);
+    for cost in &least[..count] {
+        sum += *cost;
     }
     sum
 }
@@ -94,5 +92,5 @@ pub(crate) fn lower_bound(held: &Checked) -> i64
     let by_label = label_sum(&least, held.sheet.labels);
     let by_node = node_sum(held);
     let by_edge = edge_sum(held);
-    plus(plus(by_node, by_edge), by_label)
+    by_node + by_edge + by_label
 }

@@ -12,7 +12,7 @@ ghost use Rattle.messages.specs.State.{instance_in};
 
 use crate::limit::Limit;
 use crate::records::{Flow, Record};
-use crate::rows::{amount_of, in_range, minus, plus, share_of};
+use crate::rows::{amount_of, in_range, share_of};
 use crate::share::Share;
 use crate::state::State;
 use instance::Refusal;
@@ -33,8 +33,8 @@ pub(crate) fn shift_label(
     requires p_bound { unsigned_abs p ≤ 2 ^ 41 }
     ensures { label_move (refused_in result) nodes.new labels.new ≡ label_moved limit.most nodes.old labels.old i p }
 {
-    let node = minus(nodes[i], p);
-    let label = plus(labels[i], p);
+    let node = nodes[i] - p;
+    let label = labels[i] + p;
     if in_range(node, limit) {
         if in_range(label, limit) {
             nodes[i] = node;
@@ -112,7 +112,7 @@ impl State<'_> {
         let share = Share { parts: step.share };
         match flow {
             Flow::FromNode => self.node_amount(step.node, step.index, share),
-            Flow::ToNode => minus(0, self.label_amount(self.place_of(step), share)),
+            Flow::ToNode => -self.label_amount(self.place_of(step), share),
         }
     }
 }

@@ -11,7 +11,6 @@ use crate::incumbent::none_kept;
 use crate::labelled::Labelled;
 use crate::lent::{Lent, check_lent};
 use crate::limit::COST_LIMIT;
-use crate::rows::minus;
 use instance::{Refusal, Sheet};
 
 // A bound beside the cost of what is kept: no bound may exceed it.
@@ -22,7 +21,7 @@ fn answer(bound: i64, cost: i64) -> Result<Report, Refusal>
     if cost < bound {
         return Err(Refusal::BoundAboveCost);
     }
-    Ok(Report::Kept(bound, cost, minus(cost, bound)))
+    Ok(Report::Kept(bound, cost, cost - bound))
 }
 
 // The report of what was found good.

@@ -1,6 +1,5 @@
 // Rows of costs: the least of a row, a cost's least rival, shares of a distance, and whether costs lie within the limit.
-ghost use Rattle.std.specs.Prelude.{◌≡◌, ◌*◌, ◌^◌, ◌/◌, ◌<◌, ◌≤◌, true, length, pos, ◌+ℤ◌, ◌-ℤ◌, FitsSigned, nat_lt, slice_index_or, unsigned_abs};
-ghost use Rattle.std.specs.Int.{w64};
+ghost use Rattle.std.specs.Prelude.{◌≡◌, ◌*◌, ◌^◌, ◌/◌, ◌<◌, ◌≤◌, true, length, pos, ◌-ℤ◌, nat_lt, slice_index_or, unsigned_abs};
 ghost use Rattle.integers.specs.Least.{min_ℤ, least_from, least_of, without};
 ghost use Rattle.integers.specs.Share.{nearest, share, amount};
 ghost use Rattle.integers.specs.Sum.{Within};
@@ -10,23 +9,6 @@ ghost use Rattle.rules.specs.Calls.{cost_limit};
 
 use crate::limit::Limit;
 use crate::share::Share;
-
-// A sum that fits.
-// Kept: with `minus`, as calls. A call asks for its range once; written out, each reading of it in a proof would show that again.
-pub(crate) fn plus(a: i64, b: i64) -> i64
-    requires { FitsSigned w64 (a +ℤ b) }
-    ensures { result ≡ a +ℤ b }
-{
-    a + b
-}
-
-// A difference that fits.
-pub(crate) fn minus(a: i64, b: i64) -> i64
-    requires { FitsSigned w64 (a -ℤ b) }
-    ensures { result ≡ a -ℤ b }
-{
-    a - b
-}
 
 // The less of a cost of a row and the best so far.
 // Kept: it asks that the place is in the row, and so do others here, as an index into a slice does.

@@ -1,76 +1,90 @@
--- `edge_sum` meets its contract: one table after another.
-use Rattle.std.proofs.Common.{◌≡◌, ℕ, ◌+◌, ◌-◌, ◌≤◌, true, List, length, get_or, ℤ, pos, nat_abs, ap, arith, w64, to_z, of_z}
+-- `edge_sum` meets its contract: after e turns the sum is that of the first e tables' leasts.
+use Rattle.std.proofs.Common.{◌≡◌, ℕ, ◌+◌, ◌-◌, ◌≤◌, true, List, length, get_or, ℤ, pos, ◌+ℤ◌, nat_abs, ap, ◌∙◌, arith, w64, SFits, to_z, to_z-of_z}
 use Rattle.integers.specs.Least.{least_of}
+use Rattle.integers.specs.Places.{offset}
 use Rattle.integers.specs.Rows.{part}
-use Rattle.integers.proofs.Bits.{answer}
+use Rattle.integers.proofs.Bits.{same}
 use Rattle.integers.proofs.Rows.{within_map}
+use Rattle.instance.specs.declared.sheet.Sheet.{Sheet}
 use Rattle.instance.specs.Instance.{Instance, table_size, table}
 use Rattle.instance.specs.Sheet.{instance_of}
+use Rattle.instance.specs.Described.{labels_of}
+use Rattle.instance.proofs.Sheets.{edges_few}
 use Rattle.rules.specs.Calls.{cost_limit}
 use Rattle.messages.specs.Lent.{Fits}
-use Rattle.instance.specs.Described.{labels_of}
 use Rattle.messages.specs.EdgeMessage.{usable_of, usable_cells}
+use Rattle.messages.specs.Bounds.{table_least}
 use Rattle.messages.proofs.RowLaws.{least_of_within}
-use Rattle.messages.proofs.SumLaws.{summed_none, part_inside, part_is, part_length, part_range, summed_fits, summed_more}
-use Rattle.instance.proofs.Sheets.{edges_few}
-use Rattle.messages.proofs.BoundLaws.{edge_parts}
+use Rattle.messages.proofs.SumLaws.{Parts, added_none, added_fits, added_more, added_all, part_inside, part_is, part_length, part_range}
+use Rattle.messages.proofs.BoundLaws.{edge_parts, edge_begins}
 use Rattle.messages.proofs.StateLaws.{edges_held}
 use Rattle.messages.proofs.bound.edge_sum.Goals as goal
-use Rattle.messages.proofs.bound.edge_sum.Goals.{After-cell_least, After-size, At-loop-e, Start}
-
-pub loop-e-init : goal.loop-e-init
-loop-e-init c = summed_none _ _ _
+use Rattle.messages.proofs.bound.edge_sum.Goals.{After-cell_least-sum, After-size}
 
 -- the table of this turn
 module _ (d : After-size) where
-  abbrev head : At-loop-e
-  head = (goal.at.After-size d).At-loop-e
-
-  abbrev start : Start
-  start = (goal.at.At-loop-e head).Start
-
-  abbrev s : List ℕ
-  s = start.args.held.now.sheet.now.bytes.now
+  abbrev x : Sheet
+  x = d.args.held.now.sheet.now
 
   abbrev I : Instance
-  I = instance_of s
+  I = instance_of x.bytes.now
+
+  abbrev costs : List ℤ
+  costs = d.args.held.now.lent.edges.now
+
+  abbrev at : ℕ
+  at = get_or x.tables d.loop-e.e 0
 
   abbrev cells : List ℤ
-  cells = let a = head.loop-e.at in part start.args.held.now.lent.edges.now a (a + d.size.result - a)
+  cells = part costs at (at + d.size.result - at)
 
-  inside : head.loop-e.at + d.size.result ≤ length start.args.held.now.lent.edges.now
-  inside = part_inside head.loop-e.invariant d.loop-e-test.true d.size.result d.size.ensures.0 (edge_parts start.args.held.now.sheet.now (edges_held start.args.held.now))
+  begins : at ≡ offset (table_size I) d.loop-e.e
+  begins = edge_begins x d.loop-e-test.true
 
-  fits : Fits (table_size I head.loop-e.e) cells
+  parts : Parts (table_size I) costs x.edges
+  parts = edge_parts x (edges_held d.args.held.now)
+
+  inside : at + d.size.result ≤ length costs
+  inside = part_inside parts d.loop-e-test.true begins d.size.ensures.0
+
+  fits : Fits (table_size I d.loop-e.e) cells
   fits = record {
-    size = part_length head.loop-e.invariant d.loop-e-test.true d.size.result d.size.ensures.0 (edge_parts start.args.held.now.sheet.now (edges_held start.args.held.now));
-    range = part_range head.loop-e.invariant d.loop-e-test.true d.size.result d.size.ensures.0 (edge_parts start.args.held.now.sheet.now (edges_held start.args.held.now));
+    size = part_length parts d.loop-e-test.true begins d.size.ensures.0;
+    range = part_range parts d.loop-e-test.true begins d.size.ensures.0;
   }
 
   -- the least usable of some cells of this edge
   abbrev least : List ℤ → ℤ
-  least l = let e = head.loop-e.e in least_of (usable_cells true (labels_of s (I.low e)) (labels_of s (I.high e)) l)
+  least l = let e = d.loop-e.e in least_of (usable_cells true (labels_of x.bytes.now (I.low e)) (labels_of x.bytes.now (I.high e)) l)
 
-  small : nat_abs (least cells) ≤ cost_limit
-  small =
-      let e = head.loop-e.e in
-      least_of_within cost_limit (usable_cells true (labels_of s (I.low e)) (labels_of s (I.high e)) cells)
-      (within_map cost_limit (λ j. get_or cells j (pos 0)) (usable_of true (labels_of s (I.low e)) (labels_of s (I.high e)) (length cells)) fits.range)
+  within : nat_abs (least cells) ≤ cost_limit
+  within =
+      let e = d.loop-e.e in let low = labels_of x.bytes.now (I.low e) in let high = labels_of x.bytes.now (I.high e) in
+      least_of_within cost_limit (usable_cells true low high cells) (within_map cost_limit (λ j. get_or cells j (pos 0)) (usable_of true low high (length cells)) fits.range)
 
-least-is : (c : After-cell_least) → to_z w64 (of_z w64 c.cell_least.result) ≡ least (goal.at.After-cell_least c).After-size (cells (goal.at.After-cell_least c).After-size)
-least-is c = answer c.cell_least.type_inv c.cell_least.ensures
+-- its least
+module _ (c : After-cell_least-sum) where
+  abbrev turn : After-size
+  turn = (goal.at.After-cell_least-sum c).After-size
 
-pub plus-sum-requires : goal.plus-sum-requires
-plus-sum-requires c =
-    let d = (goal.at.plus-sum-requires c).After-size in rw (least-is c)
-    (summed_fits (head d).loop-e.invariant c.loop-e-test.true c.size.result c.size.ensures.0 (least d (cells d)) (small d) (omega (arith, edges_few (start d).args.held.now.sheet.now)))
+  is : c.cell_least-sum.result ≡ table_least (x turn).bytes.now (costs turn) c.loop-e.e
+  unfolding table
+  is = c.cell_least-sum.ensures ∙ ap (least turn) (part_is (parts turn) turn.loop-e-test.true (begins turn) turn.size.ensures.0)
 
-pub loop-e-preserved : goal.loop-e-preserved
-unfolding table
-loop-e-preserved c =
-    let d = (goal.at.loop-e-preserved c).After-size in rw (answer c.plus-sum.type_inv c.plus-sum.ensures, least-is (goal.at.loop-e-preserved c).After-cell_least)
-    (summed_more (head d).loop-e.invariant c.loop-e-test.true c.size.result c.size.ensures.0 (least d (cells d)) (small d)
-    (ap (least d) (part_is (head d).loop-e.invariant c.loop-e-test.true c.size.result c.size.ensures.0 (edge_parts (start d).args.held.now.sheet.now (edges_held (start d).args.held.now)))))
+  small : nat_abs c.cell_least-sum.result ≤ cost_limit
+  small = rw c.cell_least-sum.ensures (within turn)
+
+  sum_fits : SFits w64 (to_z w64 c.loop-e.sum-bits +ℤ c.cell_least-sum.result)
+  sum_fits = added_fits c.loop-e.invariant c.cell_least-sum.result small (omega arith) (omega (arith, c.loop-e-test.true, edges_few (x turn)))
+
+pub loop-e-init : goal.loop-e-init
+loop-e-init c = added_none _ _
+
+pub offset_bounds-sheet-e : goal.offset_bounds-sheet-e
+offset_bounds-sheet-e c = omega (arith, c.loop-e-test.true, edges_few c.args.held.now.sheet.now)
+
+pub bounds-sheet-e : goal.bounds-sheet-e
+bounds-sheet-e c = omega (arith, c.loop-e-test.true, edges_few c.args.held.now.sheet.now)
 
 pub overflow_add-to : goal.overflow_add-to
 overflow_add-to c = omega (arith, inside c)
@@ -81,5 +95,14 @@ offset_bounds-held-at c = omega (arith, inside (goal.at.offset_bounds-held-at c)
 pub slice_bounds-cell_least-end : goal.slice_bounds-cell_least-end
 slice_bounds-cell_least-end c = omega (arith, inside (goal.at.slice_bounds-cell_least-end c).After-size)
 
-pub cell_least-requires : goal.cell_least-requires
-cell_least-requires c = record { edge = c.loop-e-test.true; fits = fits (goal.at.cell_least-requires c).After-size }
+pub cell_least-sum-requires : goal.cell_least-sum-requires
+cell_least-sum-requires c = record { edge = c.loop-e-test.true; fits = fits (goal.at.cell_least-sum-requires c).After-size }
+
+pub overflow_add-sum : goal.overflow_add-sum
+overflow_add-sum c = rw (same c.cell_least-sum.result c.cell_least-sum.type_inv) (sum_fits c)
+
+pub loop-e-preserved : goal.loop-e-preserved
+loop-e-preserved c = rw (same c.cell_least-sum.result c.cell_least-sum.type_inv, to_z-of_z (sum_fits c)) (added_more c.loop-e.invariant c.cell_least-sum.result (small c) (is c))
+
+pub returns : goal.returns
+returns c = added_all c.loop-e.invariant (omega arith) c.loop-e-test.false

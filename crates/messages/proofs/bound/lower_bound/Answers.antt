@@ -1,5 +1,5 @@
 -- `lower_bound` meets its contract: the three sums are those of the rule, and together they fit.
-use Rattle.std.proofs.Common.{◌+◌, ◌*◌, ◌≤◌, List, get_or, ℤ, pos, ◌+ℤ◌, nat_abs, sym, ap, ◌∙◌, subst, ap₂, arith}
+use Rattle.std.proofs.Common.{◌≡◌, ◌+◌, ◌*◌, ◌≤◌, List, get_or, ℤ, pos, ◌+ℤ◌, nat_abs, sym, ap, ◌∙◌, subst, ap₂, arith, w64, SFits, to_z, of_z, to_z-of_z}
 use Rattle.integers.specs.Places.{total}
 use Rattle.integers.proofs.Bits.{same}
 use Rattle.instance.specs.Instance.{node_cells}
@@ -32,34 +32,50 @@ module _ (p : After-edge_sum-by_edge) where
   both : nat_abs (node +ℤ edge) ≤ (start.args.held.now.sheet.now.nodes + start.args.held.now.sheet.now.edges) * cost_limit
   both = sum_small node edge start.args.held.now.sheet.now.nodes start.args.held.now.sheet.now.edges p.node_sum-by_node.ensures.1 p.edge_sum-by_edge.ensures.1
 
+  -- as the code has them
+  node_is : to_z w64 (of_z w64 node) ≡ node
+  node_is = same node p.node_sum-by_node.type_inv
+
+  edge_is : to_z w64 (of_z w64 edge) ≡ edge
+  edge_is = same edge p.edge_sum-by_edge.type_inv
+
+  label_is : to_z w64 (of_z w64 label) ≡ label
+  label_is = same label p.label_sum-by_label.type_inv
+
+  -- and their sums
+  first_fits : SFits w64 (node +ℤ edge)
+  first_fits = sum_fits node edge start.args.held.now.sheet.now.nodes start.args.held.now.sheet.now.edges p.node_sum-by_node.ensures.1 p.edge_sum-by_edge.ensures.1 (omega (arith, few))
+
+  all_fits : SFits w64 (node +ℤ edge +ℤ label)
+  all_fits =
+      let v = start.args.held.now.sheet.now in
+      sum_fits (node +ℤ edge) label (v.nodes + v.edges) v.labels both p.label_sum-by_label.ensures.1 (omega (arith, few, labels_few v))
+
+  first_is : to_z w64 (of_z w64 (to_z w64 (of_z w64 node) +ℤ to_z w64 (of_z w64 edge))) ≡ node +ℤ edge
+  first_is = rw (node_is, edge_is) (to_z-of_z first_fits)
+
+  all_is : to_z w64 (of_z w64 (to_z w64 (of_z w64 (to_z w64 (of_z w64 node) +ℤ to_z w64 (of_z w64 edge))) +ℤ to_z w64 (of_z w64 label))) ≡ node +ℤ edge +ℤ label
+  all_is = rw (first_is, label_is) (to_z-of_z all_fits)
+
 pub label_sum-by_label-requires : goal.label_sum-by_label-requires
 label_sum-by_label-requires c =
     record { count_bound = labels_few c.args.held.now.sheet.now; within = rw c.label_leasts-least.ensures (leasts_within (instance_of c.args.held.now.sheet.now.bytes.now) c.args.held.now.lent.labels.now (labels_held c.args.held.now).range (node_cells (instance_of c.args.held.now.sheet.now.bytes.now))) }
 
-pub plus-requires : goal.plus-requires
-plus-requires c =
-    let v = (start c).args.held.now.sheet.now in
-    rw (same (node c) c.node_sum-by_node.type_inv, same (edge c) c.edge_sum-by_edge.type_inv) (sum_fits (node c) (edge c) v.nodes v.edges c.node_sum-by_node.ensures.1 c.edge_sum-by_edge.ensures.1 (omega (arith, few c)))
+pub overflow_add-result : goal.overflow_add-result
+overflow_add-result c = rw (node_is c, edge_is c) (first_fits c)
 
-pub plus-requires-2 : goal.plus-requires-2
-plus-requires-2 c =
-    let p = (goal.at.plus-requires-2 c).After-edge_sum-by_edge in let v = (start p).args.held.now.sheet.now in
-    rw (same c.plus.result c.plus.type_inv ∙ c.plus.ensures, same (node p) c.node_sum-by_node.type_inv, same (edge p) c.edge_sum-by_edge.type_inv, same (label p) c.label_sum-by_label.type_inv)
-    (sum_fits (node p +ℤ edge p) (label p) (v.nodes + v.edges) v.labels (both p) c.label_sum-by_label.ensures.1 (omega (arith, few p, labels_few (start p).args.held.now.sheet.now)))
+pub overflow_add-result-2 : goal.overflow_add-result-2
+overflow_add-result-2 c = rw (first_is c, label_is c) (all_fits c)
 
 pub returns : goal.returns
 unfolding bound
 returns c =
     let p = (goal.at.returns c).After-edge_sum-by_edge in let q = start p in
-    let v = q.args.held.now.sheet.now in
+    let x = q.args.held.now.sheet.now in
     let fn = nodes_held q.args.held.now in let fl = labels_held q.args.held.now in let fe = edges_held q.args.held.now in
-    let n = same (node p) c.node_sum-by_node.type_inv in
-    let e = same (edge p) c.edge_sum-by_edge.type_inv in
-    let l = same (label p) c.label_sum-by_label.type_inv in
-    let sum = same c.plus-2.result c.plus-2.type_inv ∙ c.plus-2.ensures ∙ ap₂ ◌+ℤ◌ (same c.plus.result c.plus.type_inv ∙ c.plus.ensures ∙ ap₂ ◌+ℤ◌ n e) l in
-    let tail = c.label_sum-by_label.ensures.0 ∙ ap (λ (k : List ℤ). total v.labels (λ i. get_or k i (pos 0))) c.label_leasts-least.ensures in (
-      sum
-          ∙ ap₂ ◌+ℤ◌ (ap₂ ◌+ℤ◌ (c.node_sum-by_node.ensures.0 ∙ by_node q.args.held.now.sheet.now fn fl fe) (c.edge_sum-by_edge.ensures.0 ∙ by_edge q.args.held.now.sheet.now fn fl fe)) (tail ∙ by_label q.args.held.now.sheet.now fn fl fe),
-      subst (λ (z : ℤ). nat_abs z ≤ 384 * cost_limit) (sym sum)
-          (omega (arith, sum_small (node p +ℤ edge p) (label p) (v.nodes + v.edges) v.labels (both p) c.label_sum-by_label.ensures.1, few p, labels_few q.args.held.now.sheet.now)),
+    let tail = c.label_sum-by_label.ensures.0 ∙ ap (λ (k : List ℤ). total x.labels (λ i. get_or k i (pos 0))) c.label_leasts-least.ensures in (
+      all_is p
+          ∙ ap₂ ◌+ℤ◌ (ap₂ ◌+ℤ◌ (c.node_sum-by_node.ensures.0 ∙ by_node x fn fl fe) (c.edge_sum-by_edge.ensures.0 ∙ by_edge x fn fl fe)) (tail ∙ by_label x fn fl fe),
+      subst (λ (z : ℤ). nat_abs z ≤ 384 * cost_limit) (sym (all_is p))
+          (omega (arith, sum_small (node p +ℤ edge p) (label p) (x.nodes + x.edges) x.labels (both p) c.label_sum-by_label.ensures.1, few p, labels_few x)),
     )

@@ -1,5 +1,5 @@
 -- `given` meets its contract: the node's amount, or the label's turned round.
-use Rattle.std.proofs.Common.{◌≡◌, ℕ, ◌+◌, ◌^◌, ◌≤◌, ℤ, pos, ◌-ℤ◌, nat_abs, sym, ap, ◌∙◌, subst, arith}
+use Rattle.std.proofs.Common.{◌≡◌, ℕ, ◌+◌, ◌^◌, ◌≤◌, ℤ, pos, ◌-ℤ◌, neg_ℤ, nat_abs, sym, ap, ◌∙◌, subst, arith, w64, to_z, of_z, to_z-of_z}
 use Rattle.integers.proofs.Bits.{same}
 use Rattle.instance.specs.Instance.{first}
 use Rattle.messages.specs.declared.records.Flow.{Flow}
@@ -34,15 +34,24 @@ label_amount-requires c =
     let q = c.requires in let s = c.args.self.now in
     rw c.place_of.ensures (omega (arith, place_in (instance_in s) q.node q.position s.labels.now (labels_fit s).size, (labels_fit s).size), q.exclusive)
 
-pub minus-requires : goal.minus-requires
-minus-requires c =
-    let q = (goal.at.minus-requires c).Start in rw (same c.label_amount.result c.label_amount.type_inv, read c) (zero_fits (amount q) (small q))
+-- the label's amount turned round
+module _ (c : After-label_amount) where
+  abbrev q : Start
+  q = (goal.at.After-label_amount c).Start
+
+  read_is : to_z w64 (of_z w64 c.label_amount.result) ≡ amount q
+  read_is = same c.label_amount.result c.label_amount.type_inv ∙ read c
+
+  turned : to_z w64 (of_z w64 (pos 0 -ℤ to_z w64 (of_z w64 c.label_amount.result))) ≡ neg_ℤ (amount q)
+  turned = rw read_is (to_z-of_z (zero_fits (amount q) (small q)) ∙ from_zero (amount q))
+
+pub overflow_sub-result : goal.overflow_sub-result
+overflow_sub-result c = let w = q c in rw (read_is c) (zero_fits (amount w) (small w))
 
 pub returns-in-ToNode : goal.returns-in-ToNode
 returns-in-ToNode c =
-    let q = (goal.at.returns-in-ToNode c).Start in let e =
-    same c.minus.result c.minus.type_inv ∙ c.minus.ensures ∙ ap (λ (z : ℤ). pos 0 -ℤ z) (same c.label_amount.result c.label_amount.type_inv ∙ read (goal.at.returns-in-ToNode c).After-label_amount) ∙ from_zero (amount q)
-    in (e ∙ ap (given q) (sym c.in-ToNode.is), subst (λ (z : ℤ). nat_abs z ≤ 2 ^ 41) (sym e) (neg_fits (amount q) (small q)))
+    let d = (goal.at.returns-in-ToNode c).After-label_amount in let w = q d in
+    (turned d ∙ ap (given w) (sym c.in-ToNode.is), subst (λ (z : ℤ). nat_abs z ≤ 2 ^ 41) (sym (turned d)) (neg_fits (amount w) (small w)))
 
 pub returns-in-FromNode : goal.returns-in-FromNode
 returns-in-FromNode c =
