@@ -1,6 +1,6 @@
 -- The indexes of a sheet, as they are made of its bytes.
 -- Assumes nothing.
-use Rattle.std.proofs.Common.{◌≡◌, ℕ, ◌+◌, ◌-◌, ◌*◌, ◌≤◌, List, length, take, drop, refl, sym, subst, arith}
+use Rattle.std.proofs.Common.{◌≡◌, ℕ, ◌+◌, ◌-◌, ◌*◌, ◌≤◌, List, length, take, drop, sym, subst, arith}
 use denote.Enum.Declared.{tag_of}
 use Rattle.instance.specs.declared.sheet.Sheet.{Sheet}
 use Rattle.instance.specs.Instance.{Instance, first, node_cells}
@@ -12,7 +12,7 @@ use Rattle.messages.specs.contracts.end.End.{the_type as end_type}
 use Rattle.messages.specs.declared.end.End.{End}
 use Rattle.messages.specs.declared.end.End.TheVariants.{Lower, Higher}
 use Rattle.messages.specs.LabelMessage.{Holders}
-use Rattle.messages.specs.Indexes.{node_at, Ended}
+use Rattle.messages.specs.Indexes.{Ended}
 
 -- the first byte of an edge is its lower end, the second its higher
 pub end_few : (e : End) → tag_of end_type e ≤ 1

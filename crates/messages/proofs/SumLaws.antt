@@ -7,7 +7,7 @@ use Rattle.integers.specs.Places.{total, offset}
 use Rattle.integers.proofs.Parts.{linear, add, abs}
 use Rattle.integers.proofs.Sum.{abs_add}
 use Rattle.integers.proofs.Rows.{length_part, within_part}
-use Rattle.integers.proofs.Totals.{offset_le, offset_more, offset_none}
+use Rattle.integers.proofs.Totals.{offset_le}
 use Rattle.rules.specs.Calls.{cost_limit}
 
 -- ---- a sum of f over the places below u, each term within k

@@ -15,10 +15,8 @@ impl Amounts {
     pub(crate) fn negated(&self) -> Amounts
         ensures { result.each ≡ taken_of self.now.each }
     {
-        let mut taken = [0; 16];
-        for (k, amount) in self.each.iter().enumerate() {
-            taken[k] = -*amount;
+        Amounts {
+            each: self.each.map(|amount| -amount),
         }
-        Amounts { each: taken }
     }
 }

@@ -1,5 +1,5 @@
 // Rounding by equation (10): node by node the free position with the least key, the lowest of equals. Document 01, record 5.
-ghost use Rattle.std.specs.Prelude.{◌≡◌, ℕ, ◌+◌, ◌^◌, ◌<◌, ◌≤◌, IfSome, length, pos, slice_index_or};
+ghost use Rattle.std.specs.Prelude.{◌≡◌, ℕ, ◌+◌, ◌^◌, ◌<◌, ◌≤◌, true, IfSome, length, pos, slice_index_or};
 ghost use Rattle.integers.specs.Sum.{Within};
 ghost use Rattle.instance.specs.Instance.{first};
 ghost use Rattle.instance.specs.Sheet.{instance_of};
@@ -19,20 +19,18 @@ fn add_cells(keys: &mut [i64], row: &[i64])
     requires within_2 { Within cost_limit row.now }
     ensures { keys.new ≡ added keys.old row.now }
 {
+    // Kept: a key by its place, since a proof knows nothing of what is written through a `zip` of `iter_mut`.
     for (i, cost) in row.iter().enumerate() {
         keys[i] = keys[i] + *cost;
     }
 }
 
-// The better of the best so far, if there is one, and the position `k`, which counts if it is free.
-#[tactic(auto, using(crate::proofs::ChoiceLaws::better_first, crate::proofs::ChoiceLaws::better_less, crate::proofs::ChoiceLaws::better_stays, crate::proofs::ChoiceLaws::better_taken))]
-fn better_of(free: bool, keys: &[i64; 16], best: Option<usize>, k: usize) -> Option<usize>
+// The better of the best so far, if there is one, and the free position `k`.
+#[tactic(auto, using(crate::proofs::ChoiceLaws::better_first, crate::proofs::ChoiceLaws::better_less, crate::proofs::ChoiceLaws::better_stays))]
+fn better_of(keys: &[i64; 16], best: Option<usize>, k: usize) -> Option<usize>
     requires { IfSome best (λ b. b < 16) × (k < 16) }
-    ensures { result ≡ better free (λ (i : ℕ). slice_index_or keys.now i (pos 0)) best k }
+    ensures { result ≡ better true (λ (i : ℕ). slice_index_or keys.now i (pos 0)) best k }
 {
-    if !free {
-        return best;
-    }
     match best {
         Some(b) if keys[b] <= keys[k] => best,
         _ => Some(k),
@@ -48,7 +46,9 @@ fn choose(sheet: &Sheet, u: usize, keys: &[i64; 16], untaken: &[bool; 256]) -> O
     let mut best = None;
     for k in 0..sheet.degree(u) {
         let label = sheet.label(at + k);
-        best = better_of(untaken[label], keys, best, k);
+        if untaken[label] {
+            best = better_of(keys, best, k);
+        }
     }
     best
 }

@@ -1,5 +1,5 @@
 -- Contracts of the private functions: writing records one after another, and the records as the indexes have them.
-use Rattle.std.specs.Prelude.{◌≡◌, cond, List, ◌++◌, map, Result, Ok, Err, ℕ, ◌+◌, ◌-◌, ◌*◌, ◌≤◌, ◌<◌, eqb, length, get_or, take, drop}
+use Rattle.std.specs.Prelude.{◌≡◌, cond, List, ◌++◌, map, Result, Ok, Err, ℕ, ◌+◌, ◌-◌, ◌*◌, ◌≤◌, ◌<◌, eqb, length, get_or, take}
 use Rattle.integers.specs.Places.{range, offset}
 use Rattle.instance.specs.declared.refusal.Refusal.{Refusal}
 use Rattle.instance.specs.declared.refusal.Refusal.TheVariants.{NoSuchRecord}

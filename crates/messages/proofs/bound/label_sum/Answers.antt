@@ -1,5 +1,5 @@
 -- `label_sum` meets its contract: what is gone through is summed.
-use Rattle.std.proofs.Common.{◌≡◌, ℕ, ◌*◌, ◌<◌, ◌≤◌, List, length, take, get_or, ℤ, pos, ◌+ℤ◌, nat_abs, refl, sym, ap, ◌∙◌, arith, w64, SFits, to_z, of_z, to_z-of_z, length-take, rules}
+use Rattle.std.proofs.Common.{◌≡◌, ℕ, ◌<◌, ◌≤◌, List, length, take, get_or, ℤ, pos, ◌+ℤ◌, nat_abs, refl, ap, ◌∙◌, arith, w64, SFits, to_z, of_z, to_z-of_z, length-take}
 use Rattle.std.proofs.lemmas.List.{get_or-take}
 use Rattle.integers.specs.Places.{total}
 use Rattle.integers.proofs.Totals.{total_ext}

@@ -5,7 +5,7 @@ use Rattle.integers.specs.Places.{offset}
 use Rattle.integers.specs.Rows.{part}
 use Rattle.integers.proofs.Bits.{same}
 use Rattle.instance.specs.declared.sheet.Sheet.{Sheet}
-use Rattle.instance.specs.Instance.{Instance, first}
+use Rattle.instance.specs.Instance.{first}
 use Rattle.instance.specs.Sheet.{instance_of}
 use Rattle.instance.proofs.Sheets.{nodes_few, degree_some}
 use Rattle.rules.specs.Calls.{cost_limit}

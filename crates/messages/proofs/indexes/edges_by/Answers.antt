@@ -1,5 +1,5 @@
 -- `edges_by` meets its contract: every second byte of the ends.
-use Rattle.std.proofs.Common.{◌+◌, ◌*◌, arith}
+use Rattle.std.proofs.Common.{arith}
 use Rattle.instance.proofs.Sheets.{edges_few, ends_few}
 use Rattle.messages.proofs.IndexLaws.{end_few, ends_inside, ended_made}
 use Rattle.messages.proofs.indexes.edges_by.Goals as goal

@@ -1,5 +1,5 @@
 -- `places_by_label` meets its contract: the labels, which stand between the degrees and the node prices.
-use Rattle.std.proofs.Common.{◌+◌, arith}
+use Rattle.std.proofs.Common.{arith}
 use Rattle.instance.proofs.Sheets.{whole, nodes_is}
 use Rattle.messages.proofs.IndexLaws.{labels_between, holders_made}
 use Rattle.messages.proofs.indexes.places_by_label.Goals as goal

@@ -1,12 +1,12 @@
 -- `choose` meets its contract: after k positions the best is that of the first k.
-use Rattle.std.proofs.Common.{◌≡◌, ℕ, ◌+◌, ◌<◌, false, Option, get_or, pos, ap, ◌∙◌, ap₂, arith}
+use Rattle.std.proofs.Common.{◌≡◌, ℕ, ◌+◌, ◌<◌, Bool, false, Option, get_or, ℤ, pos, sym, ap, ◌∙◌, ap₂, arith}
 use Rattle.instance.specs.Instance.{Instance, first}
 use Rattle.instance.specs.Sheet.{instance_of}
 use Rattle.instance.proofs.Sheets as sheet
-use Rattle.messages.specs.Rounded.{better}
-use Rattle.messages.proofs.ChoiceLaws.{chosen_none, chosen_few, chosen_more}
+use Rattle.messages.specs.Rounded.{better, chosen_from}
+use Rattle.messages.proofs.ChoiceLaws.{better_taken, chosen_none, chosen_few, chosen_more}
 use Rattle.messages.proofs.rounding.choose.Goals as goal
-use Rattle.messages.proofs.rounding.choose.Goals.{In-loop-k, Start}
+use Rattle.messages.proofs.rounding.choose.Goals.{In-loop-k, Start, then-untaken-label, else-untaken-label}
 
 abbrev I : Start → Instance
 I q = instance_of q.args.sheet.now.bytes.now
@@ -52,6 +52,11 @@ loop-k-preserved c =
     let a = c.args in
     let p = (goal.at.loop-k-preserved c).In-loop-k in
     let J = I (start p) in
-    c.better_of-best.ensures
-    ∙ ap₂ (λ (l : ℕ) (b : Option ℕ). better (get_or a.untaken.now l false) (λ (i : ℕ). get_or a.keys.now i (pos 0)) b c.loop-k.k) (c.label-label.ensures.0 ∙ ap (λ (i : ℕ). J.label (i + c.loop-k.k)) (begins p)) c.loop-k.invariant
-    ∙ chosen_more J (first J a.u) a.keys.now a.untaken.now c.loop-k.k
+    let k = c.loop-k.k in
+    let key : ℕ → ℤ = (λ i. get_or a.keys.now i (pos 0)) in
+    let tested : get_or a.untaken.now c.label-label.result false ≡ get_or a.untaken.now (J.label (first J a.u + k)) false =
+    ap (λ (l : ℕ). get_or a.untaken.now l false) (c.label-label.ensures.0 ∙ ap (λ (i : ℕ). J.label (i + k)) (begins p)) in
+    elim c.if-untaken-label.branch [
+      | then-untaken-label w ↦ rw w.best-is (w.better_of-best.ensures ∙ ap₂ (λ (t : Bool) (b : Option ℕ). better t key b k) (sym w.if-untaken-label.true ∙ tested) c.loop-k.invariant ∙ chosen_more J (first J a.u) a.keys.now a.untaken.now k)
+      | else-untaken-label w ↦ rw w.best-is (c.loop-k.invariant ∙ better_taken key k (chosen_from J (first J a.u) a.keys.now a.untaken.now k) (sym tested ∙ w.if-untaken-label.false) ∙ chosen_more J (first J a.u) a.keys.now a.untaken.now k)
+    ]

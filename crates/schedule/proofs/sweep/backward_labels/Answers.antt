@@ -1,11 +1,9 @@
 -- `backward_labels` meets its contract: the labels' lists by the places that have them.
-use Rattle.std.proofs.Common.{◌≡◌, ◌+◌, ◌-◌, length, sym, ap, subst, arith}
+use Rattle.std.proofs.Common.{◌≡◌, length, ap, arith}
 use Rattle.instance.specs.declared.sheet.Sheet.{Sheet}
-use Rattle.instance.specs.Instance.{Instance, first, node_cells}
+use Rattle.instance.specs.Instance.{Instance}
 use Rattle.instance.specs.Sheet.{instance_of}
-use Rattle.instance.proofs.Indexes.{labels_indexed}
-use Rattle.instance.proofs.Sheets.{whole, nodes_is, labels_few}
-use Rattle.index.specs.Index.{Indexed}
+use Rattle.instance.proofs.Sheets.{labels_few}
 use Rattle.schedule.specs.Sweep.{each, falling, label_at}
 use Rattle.schedule.specs.Writing.{label_by}
 use Rattle.schedule.proofs.WritingLaws.{room_for, wrote_as}

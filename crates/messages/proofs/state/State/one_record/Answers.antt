@@ -1,5 +1,5 @@
 -- `one_record` meets its contract: a record that is refused for its kind leaves the buffers.
-use Rattle.std.proofs.Common.{◌≡◌, ℕ, Result, ap, ◌∙◌}
+use Rattle.std.proofs.Common.{ℕ, Result, ap, ◌∙◌}
 use Rattle.std.proofs.lemmas.Result.{err_from_is_err_and}
 use Rattle.instance.specs.declared.refusal.Refusal.{Refusal}
 use Rattle.instance.specs.Refusal.{number, refused_in}
