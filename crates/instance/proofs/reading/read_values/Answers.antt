@@ -33,9 +33,9 @@ unfolding checks
 returns-then-not-all_prices_ok c =
     refused_at c.args.bytes.now 10 (lit< tt) (known _ c.requires.1 (sym c.labels_ok.ensures ∙ c.if-not-labels_ok.false)) (sym c.all_prices_ok.ensures ∙ c.if-not-all_prices_ok.true)
 
-pub edges_usable-requires : goal.edges_usable-requires
-edges_usable-requires c =
-    (usable_asked _ c.requires.0 (sym c.labels_ok.ensures ∙ c.if-not-labels_ok.false), c.requires.0.begun.counted.all)
+pub invariant_of-cells : goal.invariant_of-cells
+invariant_of-cells c =
+    record { asked = usable_asked _ c.requires.0 (sym c.labels_ok.ensures ∙ c.if-not-labels_ok.false); all = c.requires.0.begun.counted.all }
 
 pub returns-then-not-edges_usable : goal.returns-then-not-edges_usable
 unfolding checks

@@ -3,7 +3,10 @@ use Rattle.std.proofs.Common.{ℕ, not, ap, ◌∙◌}
 use Rattle.integers.specs.Checks.{below}
 use Rattle.integers.proofs.Checks.{folded_none, folded_more, folded_all}
 use Rattle.instance.specs.Sheet.{none_usable, usable_ok}
-use Rattle.instance.proofs.cells.each_usable.Goals as goal
+use Rattle.instance.proofs.cells.Cells.each_usable.Goals as goal
+
+pub loop-e-init : goal.loop-e-init
+loop-e-init c = folded_none _ _
 
 pub loop-e-preserved : goal.loop-e-preserved
 loop-e-preserved c = folded_more c.loop-e.invariant c.loop-e-test.true c.edge_usable-ok.ensures
@@ -11,7 +14,5 @@ loop-e-preserved c = folded_more c.loop-e.invariant c.loop-e-test.true c.edge_us
 pub returns : goal.returns
 unfolding usable_ok
 returns c =
-    folded_all c.loop-e.invariant c.loop-e-test.false ∙ ap (λ (n : ℕ). below n (λ e. not (none_usable c.args.sheet.now e))) c.requires.1
-
-pub loop-e-init : goal.loop-e-init
-loop-e-init c = folded_none _ _
+    let x = c.args.self.now in
+    folded_all c.loop-e.invariant c.loop-e-test.false ∙ ap (λ (n : ℕ). below n (λ e. not (none_usable x.bytes.now e))) x.all
