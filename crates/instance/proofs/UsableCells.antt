@@ -4,14 +4,14 @@ use Rattle.std.proofs.Common.{◌≡◌, ℕ, ◌+◌, ◌*◌, ◌<◌, ◌≤�
 use borrow.Author.Tests.{eqb-false, not-true, not-false}
 use Rattle.integers.specs.Checks.{below}
 use Rattle.integers.proofs.Places.{by-test, both_ways, or_split, left_true, right_true}
-use Rattle.integers.proofs.Checks.{below_at, below_all, below_fails, below_not, padded_at}
+use Rattle.integers.proofs.Checks.{below_at, below_all, below_fails, below_not}
 use Rattle.instance.specs.Bytes.{byte}
 use Rattle.instance.specs.Instance.{Instance, exclusive, usable, first}
 use Rattle.instance.specs.Sheet.{instance_of, labels_ok, none_usable, usable_ok}
 use Rattle.instance.specs.declared.sections.Degrees.{Degrees}
 use Rattle.instance.specs.declared.sections.Ends.{Ends}
 use Rattle.instance.specs.Passes.{LabelsBegun, UsableAsked, Laid}
-use Rattle.instance.proofs.Stages.{degrees_asked, ends_asked, total_is}
+use Rattle.instance.proofs.Stages.{start_is, labels_begun, ends_asked}
 use Rattle.instance.proofs.LaidOut.{row_inside}
 use Rattle.instance.proofs.Readable.{label_rises, ends_order}
 use Rattle.instance.proofs.Turns.{degree_bounds}
@@ -75,21 +75,15 @@ module _ {s : List ℕ} {n : ℕ} {starts : List ℕ} (b : LabelsBegun s n start
   abbrev I : Instance
   I = instance_of s
 
-  pub start_few : u < 64
-  start_few = omega (arith, b.degrees)
-
-  start_is : get_or starts u 0 ≡ first I u
-  start_is = ap (λ (l : List ℕ). get_or l u 0) b.begun ∙ padded_at 64 I.node_count (first I) u start_few h
-
   pub first_inside : n + get_or starts u 0 < length s
   unfolding first instance_of
   first_inside =
       let d = degree_bounds s n b.degrees.nodes b.small u (omega (arith, b.degrees.nodes)) in
-      omega (arith, b.room, b.degrees.nodes, start_is, row_inside I h)
+      omega (arith, b.room, b.degrees.nodes, start_is b h, row_inside I h)
 
   pub first_is : byte s (n + get_or starts u 0) ≡ I.label (first I u)
   unfolding instance_of
-  first_is = ap₂ (λ (i j : ℕ). byte s (i + j)) b.degrees.nodes start_is
+  first_is = ap₂ (λ (i j : ℕ). byte s (i + j)) b.degrees.nodes (start_is b h)
 
 -- ---- and an edge
 
@@ -138,10 +132,9 @@ module _ (s : List ℕ) {n labels edges : ℕ} {d : Degrees} {x : Ends} (l : Lai
   pub usable_asked : labels_ok s ≡ true → UsableAsked s n (n + 5 * d.total) d.starts
   unfolding first instance_of
   usable_asked r =
-      let c = l.begun.counted in
       record {
-        labels = record { degrees = degrees_asked s c; small = l.begun.small; begun = ap (λ (y : Degrees). y.starts) l.begun.begun; room = omega (arith, l.room, c.nodes) };
-        ends = rw (← c.all) (ends_asked s c l.begun.small (total_is s l.begun) (omega (arith, l.room, total_is s l.begun)));
+        labels = labels_begun s l.begun;
+        ends = rw (← l.begun.counted.all) (ends_asked s l.begun);
         ordered = l.ordered;
         rising = r;
       }

@@ -1,6 +1,0 @@
--- `read_ends` meets its contract, by the laws of its turns.
-use Rattle.instance.proofs.Turns.{EndsTurn}
-use Rattle.instance.proofs.sections.read_ends.Given as goal
-
-abbrev pub invariant-loop-e : goal.invariant-loop-e
-invariant-loop-e l = EndsTurn l.sheet l.edges l.tables l.total l.next l.e
