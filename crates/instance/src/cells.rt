@@ -50,11 +50,7 @@ impl<'a> Cells<'a> {
     fn each_usable(&self) -> bool
         ensures { result ≡ usable_ok self.now.bytes.now }
     {
-        let mut ok = true;
-        for e in 0..self.edges {
-            ok &= self.edge_usable(e);
-        }
-        ok
+        (0..self.edges).all(|e| self.edge_usable(e))
     }
 
     // Whether each node has two labels or more.
