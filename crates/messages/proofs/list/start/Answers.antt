@@ -1,8 +1,7 @@
 -- `start` meets its contract: the sheet, what is lent, and then the list.
 use Rattle.std.proofs.Common.{◌≡◌, ℕ, List, sym, ap, ◌∙◌, arith, Bor}
-use Rattle.std.proofs.lemmas.Result.{err_from_is_err_and}
 use Rattle.instance.specs.Refusal.{number, refused_in}
-use Rattle.instance.proofs.Told.{numbered}
+use Rattle.instance.proofs.Told.{handed, numbered}
 use Rattle.rules.specs.Costs.{Buffers}
 use Rattle.rules.specs.Calls.{lent_refusal}
 use Rattle.messages.specs.Lent.{lent_of}
@@ -18,11 +17,10 @@ pub returns-in_err-sheet-clause-refusal : goal.returns-in_err-sheet-clause-refus
 returns-in_err-sheet-clause-refusal c =
     let q = (goal.at.returns-in_err-sheet-clause-refusal c).Start in
     let a = q.args in
-    let (y, r, e) = err_from_is_err_and c.from_residual.result c.from_residual.ensures.1 in
     let n = c.in_err-sheet.ensures.refusal in
     let m = numbered c.in_err-sheet.field-0.0 in
     let u = n ∙ lent_unread a.sheet.now a.limit.most (lends q) (λ z. omega (arith, n, m)) in
-    ap refused_in r ∙ ap number e ∙ u ∙ run_unread a.sheet.now a.limit.most (lends q) a.records.now (λ z. omega (arith, u, m))
+    handed _ c.from_residual.result c.from_residual.ensures.1 ∙ u ∙ run_unread a.sheet.now a.limit.most (lends q) a.records.now (λ z. omega (arith, u, m))
 
 -- a sheet that was read, by the bytes that were given
 module _ (p : In_ok-sheet) where
@@ -36,10 +34,9 @@ pub returns-in_err-check_lent-clause-refusal : goal.returns-in_err-check_lent-cl
 returns-in_err-check_lent-clause-refusal c =
     let p = (goal.at.returns-in_err-check_lent-clause-refusal c).In_ok-sheet in let q = start p in
     let a = q.args in
-    let (y, r, e) = err_from_is_err_and c.from_residual-in_err-check_lent.result c.from_residual-in_err-check_lent.ensures.1 in
     let m = numbered c.in_err-check_lent.field-0.0 in
     let u = c.in_err-check_lent.ensures ∙ over p in
-    ap refused_in r ∙ ap number e ∙ u ∙ run_unread a.sheet.now a.limit.most (lends q) a.records.now (λ z. omega (arith, u, m))
+    handed _ c.from_residual-in_err-check_lent.result c.from_residual-in_err-check_lent.ensures.1 ∙ u ∙ run_unread a.sheet.now a.limit.most (lends q) a.records.now (λ z. omega (arith, u, m))
 
 pub returns-then-records-ne0-clause-refusal : goal.returns-then-records-ne0-clause-refusal
 returns-then-records-ne0-clause-refusal c =

@@ -1,11 +1,10 @@
 -- `open` meets its contract: refused, nothing is altered; else the four buffers are filled from the sheet.
 use Rattle.std.proofs.Common.{◌≡◌, ℕ, ◌+◌, ◌*◌, ◌≤◌, true, List, length, Bor, sym, ap, ◌∙◌, arith}
-use Rattle.std.proofs.lemmas.Result.{err_from_is_err_and}
 use Rattle.instance.specs.Sheet.{instance_of, refusal_of}
 use Rattle.instance.specs.Refusal.{number, refused_in}
 use Rattle.instance.specs.Instance.{first}
 use Rattle.instance.specs.declared.sheet.Sheet.{Sheet}
-use Rattle.instance.proofs.Told.{numbered}
+use Rattle.instance.proofs.Told.{handed, numbered}
 use Rattle.instance.proofs.Sheets.{whole}
 use Rattle.rules.specs.Costs.{Buffers}
 use Rattle.rules.specs.Calls.{lengths_ok, open_of}
@@ -45,9 +44,8 @@ module _ (p : Else-not-lengths_agree) where
 pub returns-in_err-sheet : goal.returns-in_err-sheet
 returns-in_err-sheet c =
     let b = started (goal.at.returns-in_err-sheet c).Start in
-    let (y, r, q) = err_from_is_err_and c.from_residual.result c.from_residual.ensures.1 in
     let z : refusal_of c.args.sheet.now ≡ 0 → ⊥ = λ z. omega (arith, numbered c.in_err-sheet.field-0.0, c.in_err-sheet.ensures.refusal) in
-    ap (opens b) (ap refused_in r ∙ ap number q ∙ c.in_err-sheet.ensures.refusal) ∙ open_unread c.args.sheet.now b z
+    ap (opens b) (handed _ c.from_residual.result c.from_residual.ensures.1 ∙ c.in_err-sheet.ensures.refusal) ∙ open_unread c.args.sheet.now b z
 
 pub returns-then-not-lengths_agree : goal.returns-then-not-lengths_agree
 returns-then-not-lengths_agree c =

@@ -1,11 +1,10 @@
 -- `write_sweep` meets its contract: refused, nothing is altered; else the buffer holds the sweep.
 use Rattle.std.proofs.Common.{◌≡◌, ℕ, true, List, length, refl, sym, ap, ◌∙◌, arith, Bor, rules}
-use Rattle.std.proofs.lemmas.Result.{err_from_is_err_and}
 use Rattle.instance.specs.declared.sheet.Sheet.{Sheet}
 use Rattle.instance.specs.declared.refusal.Refusal.{Refusal}
 use Rattle.instance.specs.Refusal.{number, refused_in}
 use Rattle.instance.specs.Sheet.{instance_of}
-use Rattle.instance.proofs.Told.{numbered}
+use Rattle.instance.proofs.Told.{handed, numbered}
 use Rattle.instance.proofs.Sheets.{proper}
 use Rattle.schedule.specs.Sweep.{bytes, sweep, known, sweep_length}
 use Rattle.schedule.specs.Written.{written, sweep_of}
@@ -41,18 +40,16 @@ module _ (k : In_ok-direction) where
 pub returns-in_err-sheet : goal.returns-in_err-sheet
 returns-in_err-sheet c =
     let a = c.args in
-    let (y, r, e) = err_from_is_err_and c.from_residual.result c.from_residual.ensures.1 in
     let n = c.in_err-sheet.ensures.refusal in
-    ap (λ q. written a.out.now (refused_in q)) r ∙ ap (λ (q : Refusal). written a.out.now (number q)) e ∙ ap (written a.out.now) n
+    ap (written a.out.now) (handed _ c.from_residual.result c.from_residual.ensures.1 ∙ n)
     ∙ unread a.sheet.now a.direction a.out.now (λ z. omega (arith, n, numbered c.in_err-sheet.field-0.0))
 
 pub returns-in_err-direction : goal.returns-in_err-direction
 returns-in_err-direction c =
     let p = (goal.at.returns-in_err-direction c).In_ok-sheet in
     let o = c.args.out.now in
-    let (y, r, e) = err_from_is_err_and c.from_residual-in_err-direction.result c.from_residual-in_err-direction.ensures.1 in
     let (t, q) = direction_unknown c.args.direction c.in_err-direction.ensures in
-    ap (λ q. written o (refused_in q)) r ∙ ap (λ (q : Refusal). written o (number q)) (e ∙ q)
+    ap (written o) (handed _ c.from_residual-in_err-direction.result c.from_residual-in_err-direction.ensures.1 ∙ ap number q)
     ∙ unknown (s p) c.args.direction o (x p).readable t
     ∙ over p c.args.direction o
 
