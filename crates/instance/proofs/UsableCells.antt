@@ -7,7 +7,7 @@ use Rattle.integers.proofs.Places.{by-test, both_ways, or_split, left_true, righ
 use Rattle.integers.proofs.Checks.{below_at, below_all, below_fails, below_not}
 use Rattle.instance.specs.Bytes.{byte}
 use Rattle.instance.specs.Instance.{Instance, exclusive, usable, first}
-use Rattle.instance.specs.Sheet.{instance_of, labels_ok, none_usable, usable_ok}
+use Rattle.instance.specs.Sheet.{instance_of, ends_at, labels_ok, none_usable, usable_ok}
 use Rattle.instance.specs.declared.sections.Degrees.{Degrees}
 use Rattle.instance.specs.declared.sections.Ends.{Ends}
 use Rattle.instance.specs.Passes.{LabelsBegun, UsableAsked, Laid}
@@ -129,12 +129,12 @@ wide_usable {s} {n} {at} asked t =
 
 -- after the prices
 module _ (s : List ℕ) {n labels edges : ℕ} {d : Degrees} {x : Ends} (l : Laid s n labels edges d x) where
-  pub usable_asked : labels_ok s ≡ true → UsableAsked s n (n + 5 * d.total) d.starts
+  pub usable_asked : {at : ℕ} → at ≡ ends_at s → labels_ok s ≡ true → UsableAsked s n at d.starts
   unfolding first instance_of
-  usable_asked r =
+  usable_asked e r =
       record {
         labels = labels_begun s l.begun;
-        ends = rw (← l.begun.counted.all) (ends_asked s l.begun);
+        ends = rw (← l.begun.counted.all) (ends_asked s l.begun e);
         ordered = l.ordered;
         rising = r;
       }

@@ -19,8 +19,8 @@ module _ (p : After-from-v) where
   abbrev s : List ℕ
   s = x.counts.bytes.now
 
-  asked : EndsAsked s x.counts.nodes (x.counts.nodes + 5 * x.degrees.total) x.counts.edges
-  asked = ends_asked s x.begun
+  asked : EndsAsked s x.counts.nodes p.ends_at-at.result x.counts.edges
+  asked = ends_asked s x.begun p.ends_at-at.ensures.0
 
   bytes : (i : ℕ) → byte s i < 256
   bytes i = omega (arith, p.type_inv.bytes i)
@@ -31,14 +31,20 @@ module _ (p : After-from-v) where
   abbrev v : ℕ
   v = p.from-v.result
 
-  abbrev eu : u ≡ byte s (x.counts.nodes + 5 * x.degrees.total + 2 * head.loop-e.e)
+  abbrev eu : u ≡ byte s (p.ends_at-at.result + 2 * head.loop-e.e)
   eu = p.from-u.ensures
 
-  abbrev ev : v ≡ byte s (x.counts.nodes + 5 * x.degrees.total + 2 * head.loop-e.e + 1)
+  abbrev ev : v ≡ byte s (p.ends_at-at.result + 2 * head.loop-e.e + 1)
   ev = p.from-v.ensures
 
 pub loop-e-init : goal.loop-e-init
 loop-e-init c = ends_none _ _
+
+pub bounds-bytes-at : goal.bounds-bytes-at
+bounds-bytes-at c = omega (arith, (ends_asked _ c.args.self.now.begun c.ends_at-at.ensures.0).room)
+
+pub bounds-bytes-at-in-loop-e : goal.bounds-bytes-at-in-loop-e
+bounds-bytes-at-in-loop-e c = omega (arith, (ends_asked _ c.args.self.now.begun c.ends_at-at.ensures.0).room)
 
 pub returns-then-v-u : goal.returns-then-v-u
 returns-then-v-u c =
@@ -62,4 +68,4 @@ loop-e-preserved c =
     c.if-v-u.false c.if-self-v.false c.if-u-v.false)
 
 pub returns : goal.returns
-returns c = ends_done (ends_asked _ c.args.self.now.begun) c.loop-e.invariant c.loop-e-test.false
+returns c = ends_done (ends_asked _ c.args.self.now.begun c.ends_at-at.ensures.0) c.loop-e.invariant c.loop-e-test.false
