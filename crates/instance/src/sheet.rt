@@ -82,7 +82,9 @@ impl<'a> Sheet<'a> {
         requires { e < self.now.edges }
         ensures { (result ≡ table_size (instance_of self.now.bytes.now) e) × (1 ≤ result) × (result ≤ 256) }
     {
-        self.degree(self.low(e)) * self.degree(self.high(e))
+        let low = self.low(e);
+        let high = self.high(e);
+        self.degree(low) * self.degree(high)
     }
 
     // The prices of edge `e`, a part of the sheet itself.

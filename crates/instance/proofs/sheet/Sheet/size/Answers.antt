@@ -11,7 +11,7 @@ size : (c : After-degree-2) → c.degree.result * c.degree-2.result ≡ table_si
 unfolding table_size
 size c =
     let d = (instance_of c.args.self.now.bytes.now).degree in
-    ap₂ ◌*◌ (c.degree.ensures.0 ∙ ap d c.low.ensures.0) (c.degree-2.ensures.0 ∙ ap d c.high.ensures.0)
+    ap₂ ◌*◌ (c.degree.ensures.0 ∙ ap d c.low-low.ensures.0) (c.degree-2.ensures.0 ∙ ap d c.high-high.ensures.0)
 
 pub returns : goal.returns
 returns c =
