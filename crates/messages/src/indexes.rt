@@ -14,7 +14,7 @@ pub fn places_by_label(sheet: &Sheet) -> Index
     Index::of(&sheet.bytes[sheet.nodes..sheet.prices], 1)
 }
 
-// The edges by one of their ends, of which every second byte is one.
+// The edges by one of their ends: every second byte of the pairs.
 pub fn edges_by(sheet: &Sheet, end: End) -> Index
     ensures { Ended sheet.now.bytes.now end result }
 {
