@@ -18,7 +18,7 @@ pub(crate) fn mask_of(labels: &[u8]) -> u64
 {
     let mut mask = 0;
     for label in labels {
-        mask = mask | bit_of(*label);
+        mask |= bit_of(*label);
     }
     mask
 }

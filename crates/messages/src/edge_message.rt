@@ -71,7 +71,7 @@ fn excess_line(line: &[i64], k: usize, end: End, amounts: &Amounts, limit: Limit
     let mut all = 0;
     for (j, cost) in line.iter().enumerate() {
         let amount = amounts.each[end.either(k, j)];
-        all = all | excess_with(*cost, amount, limit);
+        all |= excess_with(*cost, amount, limit);
     }
     all
 }
@@ -227,7 +227,7 @@ impl Joint<'_> {
         for k in 0..height {
             let a = k * width;
             let b = a + width;
-            all = all | excess_line(&self.cells[a..b], k, self.end, amounts, limit);
+            all |= excess_line(&self.cells[a..b], k, self.end, amounts, limit);
         }
         all < OUT
     }

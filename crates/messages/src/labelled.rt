@@ -21,7 +21,7 @@ impl Labelled<'_> {
         let sheet = self.sheet;
         let mut sum = 0;
         for u in 0..sheet.nodes {
-            sum = sum + sheet.node_price(sheet.starts[u] + usize::from(self.x[u]));
+            sum += sheet.node_price(sheet.starts[u] + usize::from(self.x[u]));
         }
         sum
     }
@@ -45,7 +45,7 @@ impl Labelled<'_> {
         let sheet = self.sheet;
         let mut sum = 0;
         for e in 0..sheet.edges {
-            sum = sum + sheet.edge_price(self.cell_of(e));
+            sum += sheet.edge_price(self.cell_of(e));
         }
         sum
     }

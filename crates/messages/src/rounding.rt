@@ -21,7 +21,7 @@ fn add_cells(keys: &mut [i64], row: &[i64])
 {
     // Kept: a key by its place, since a proof knows nothing of what is written through a `zip` of `iter_mut`.
     for (i, cost) in row.iter().enumerate() {
-        keys[i] = keys[i] + *cost;
+        keys[i] += *cost;
     }
 }
 

@@ -139,7 +139,7 @@ pub(crate) fn all_in_range(costs: &[i64], limit: Limit) -> bool
 {
     let mut all = 0;
     for cost in costs {
-        all = all | excess(*cost, limit);
+        all |= excess(*cost, limit);
     }
     all < OUT
 }
@@ -158,7 +158,7 @@ pub(crate) fn all_half(costs: &[i64], limit: Limit) -> bool
     let half = limit.half();
     let mut all = 0;
     for cost in costs {
-        all = all | raised(*cost, half);
+        all |= raised(*cost, half);
     }
     all < 2 * half.most
 }
