@@ -23,7 +23,8 @@ impl Model for Index {
 }
 
 impl Index {
-    // The index of things of which the i-th has as its key the byte at `stride` times i.
+    // The index of things of which the i-th has as its key the byte at `stride` times i. A key from 64 on has no row, a row has the
+    // first 64 of its things, only the first 65,536 things count, and with a stride of 0 there are none.
     pub fn of(bytes: &[u8], stride: usize) -> Self
         ensures { result ≡ index_of bytes.now stride }
     {

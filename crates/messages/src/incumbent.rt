@@ -27,6 +27,7 @@ pub(crate) fn none_kept(x: &[u8]) -> bool
 }
 
 // Whether each node has a position whose label is 255 or no lower node's. `untaken` has the labels that may be taken still, 255 always.
+// Kept: `untaken` is an array here and in `round_all`; a struct of it would be one array with two methods of a line.
 pub(crate) fn is_matching(sheet: &Sheet, x: &[u8]) -> bool
     requires { length x.now ≡ sheet.now.nodes }
     ensures { result ≡ is_matching (instance_of sheet.now.bytes.now) x.now }
@@ -48,6 +49,7 @@ pub(crate) fn is_matching(sheet: &Sheet, x: &[u8]) -> bool
 
 impl Labelled<'_> {
     // Whether it replaces the incumbent: none is kept, or its price is lower.
+    // Kept: it and `adopt` ask that the incumbent is a matching or none. A `State` knows it of its own, and the bytes lent here are that one's.
     #[tactic(auto, using(crate::proofs::IncumbentLaws::kept_labelling, crate::proofs::IncumbentLaws::replaces_kept, crate::proofs::IncumbentLaws::replaces_none, integers::proofs::Bits::same))]
     fn replaces(&self, old: &[u8]) -> bool
         requires { IncumbentFits self.now.sheet.now.bytes.now old.now }

@@ -2,7 +2,7 @@
 ghost use Rattle.std.specs.Prelude.{◌≡◌, ◌/◌, ◌≤◌};
 ghost use Rattle.rules.specs.Calls.{cost_limit};
 
-// No cost passes `most`, up or down.
+// No cost passes `most`, up or down. Every call has the one limit; the quick test of many costs goes by half of it.
 #[derive(Clone, Copy)]
 pub(crate) struct Limit {
     pub most: u64,

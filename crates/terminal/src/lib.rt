@@ -23,6 +23,7 @@ pub fn read_full<'a, R: Read>(reader: &mut R, buffer: &'a mut [u8]) -> &'a [u8]
 }
 
 // Reads a file to the buffer's end, and answers its bytes. One that is missing or cannot be read is empty.
+// Kept: a name in bytes, of which one that is no text counts as missing; a `&str` would ask more of callers.
 pub fn read_file<'a, R: Files>(rt: &R, name: &[u8], buffer: &'a mut [u8]) -> &'a [u8]
     ensures { length result.now ≤ length buffer.old }
 {
