@@ -1,6 +1,6 @@
 -- A run and a report whose refusals are any numbers: what is printed of them.
 -- Assumes nothing.
-use Rattle.std.proofs.Common.{◌⊎◌, inl, inr, ◌≡◌, ℕ, Bool, true, false, cond, ◌||◌, eqb, Option, None, Some, Result, Ok, Err, List, refl, sym, ap, ◌∙◌, eqb-true}
+use Rattle.std.proofs.Common.{◌⊎◌, inl, inr, ◌≡◌, ℕ, Bool, true, false, cond, ◌||◌, eqb, Option, None, Some, Result, Ok, Err, refl, sym, ap, ◌∙◌, eqb-true}
 use Rattle.integers.proofs.Places.{if-true, if-false}
 use Rattle.instance.specs.declared.refusal.Refusal.{Refusal}
 use Rattle.instance.specs.declared.refusal.Refusal.TheVariants.{NoSuchRecord, CostOverflow}

@@ -1,5 +1,5 @@
 -- `compose_numbers` meets its contract: a number that is no record's is printed alone, as a report's is; else it is the text of `compose`.
-use Rattle.std.proofs.Common.{◌≡◌, ℕ, List, Result, Ok, sym, ap, ◌∙◌}
+use Rattle.std.proofs.Common.{ℕ, List, Result, sym, ap, ◌∙◌}
 use Rattle.messages.specs.declared.answers.Report.{Report}
 use Rattle.console.specs.Lines.{text_of}
 use Rattle.console.specs.Numbers.{reported_by}

@@ -1,6 +1,5 @@
 -- `start` meets its contract: the sheet, what is lent, and then the list.
 use Rattle.std.proofs.Common.{◌≡◌, ℕ, List, sym, ap, ◌∙◌, arith, Bor}
-use Rattle.instance.specs.Refusal.{number, refused_in}
 use Rattle.instance.proofs.Told.{handed, numbered}
 use Rattle.rules.specs.Costs.{Buffers}
 use Rattle.rules.specs.Calls.{lent_refusal}

@@ -1,7 +1,6 @@
 -- `open` meets its contract: refused, nothing is altered; else the four buffers are filled from the sheet.
 use Rattle.std.proofs.Common.{◌≡◌, ℕ, ◌+◌, ◌*◌, ◌≤◌, true, List, length, Bor, sym, ap, ◌∙◌, arith}
 use Rattle.instance.specs.Sheet.{instance_of, refusal_of}
-use Rattle.instance.specs.Refusal.{number, refused_in}
 use Rattle.instance.specs.Instance.{first}
 use Rattle.instance.specs.declared.sheet.Sheet.{Sheet}
 use Rattle.instance.proofs.Told.{handed, numbered}

@@ -4,7 +4,6 @@ use Rattle.integers.specs.Places.{tabulate}
 use Rattle.instance.specs.declared.sheet.Sheet.{Sheet}
 use Rattle.instance.specs.Instance.{Instance}
 use Rattle.instance.specs.Sheet.{instance_of}
-use Rattle.instance.specs.Refusal.{number, refused_in}
 use Rattle.instance.proofs.Told.{handed, numbered}
 use Rattle.instance.proofs.Sheets.{proper, nodes_is, nodes_few}
 use Rattle.assignment.specs.First.{First}

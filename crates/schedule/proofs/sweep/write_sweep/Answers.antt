@@ -1,8 +1,7 @@
 -- `write_sweep` meets its contract: refused, nothing is altered; else the buffer holds the sweep.
 use Rattle.std.proofs.Common.{◌≡◌, ℕ, true, List, length, refl, sym, ap, ◌∙◌, arith, Bor, rules}
 use Rattle.instance.specs.declared.sheet.Sheet.{Sheet}
-use Rattle.instance.specs.declared.refusal.Refusal.{Refusal}
-use Rattle.instance.specs.Refusal.{number, refused_in}
+use Rattle.instance.specs.Refusal.{number}
 use Rattle.instance.specs.Sheet.{instance_of}
 use Rattle.instance.proofs.Told.{handed, numbered}
 use Rattle.instance.proofs.Sheets.{proper}
