@@ -2,6 +2,7 @@
 pub mod DecimalLaws
 pub mod WritingLaws
 pub mod RefusalLaws
+pub mod ReportLaws
 pub mod NumberedLaws
 pub mod Outputs
 pub mod ProgramLaws

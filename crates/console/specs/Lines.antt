@@ -23,6 +23,12 @@ kept_lines z p g = line (ascii "bound ") (signed z) ++ line (ascii "cost ") (sig
 unfoldable pub bound_lines : ℤ → List ℕ
 bound_lines z = line (ascii "bound ") (signed z) ++ ascii "cost none\n" ++ ascii "gap none\n"
 
+-- the three lines of a report that is not refused
+unfoldable pub cost_lines : Report → List ℕ
+cost_lines (refused k) = []
+cost_lines (bound z) = bound_lines z
+cost_lines (kept z p g) = kept_lines z p g
+
 -- a run that ended, or stopped at a record (12 or 13)
 unfoldable pub at_records : ℕ → Bool
 at_records r = eqb r 0 || eqb r 12 || eqb r 13

@@ -2,7 +2,7 @@
 ghost use Rattle.std.specs.Prelude.{◌≡◌, ◌+◌, ◌≤◌};
 ghost use Rattle.instance.specs.Refusal.{number, number_of};
 ghost use Rattle.messages.specs.Answers.{reported_as};
-ghost use Rattle.console.specs.Lines.{refused_line, count_lines, kept_lines, bound_lines, at_records, stop_line, report_text, text_of};
+ghost use Rattle.console.specs.Lines.{refused_line, count_lines, kept_lines, bound_lines, cost_lines, at_records, stop_line, report_text, text_of};
 ghost use Rattle.console.specs.Numbers.{stopped_by, reported_by};
 ghost use Rattle.console.specs.Output.{outputs, output_of};
 ghost use Rattle.console.specs.Writing.{Wrote, Room};
@@ -63,16 +63,26 @@ fn stop_line(text: &mut Text, refusal: Option<Refusal>)
     }
 }
 
+// The bound, the kept cost and the gap of a report that was not refused.
+#[tactic(auto, using(crate::proofs::WritingLaws::wrote_as, crate::proofs::ReportLaws::unkept_lines), unfolding(crate::specs::Lines::cost_lines))]
+fn cost_lines(text: &mut Text, report: Report)
+    requires { Room text.old 96 }
+    ensures wrote { Wrote text.old (cost_lines (reported_as (Ok report))) text.new }
+    ensures short { text.new.len ≤ text.old.len + 96 }
+{
+    let Report::Kept(bound, cost, gap) = report else {
+        return bound_lines(text, report.bound());
+    };
+    kept_lines(text, bound, cost, gap);
+}
+
 // The text of a run and of a report that was not refused.
 fn told_text(text: &mut Text, answer: Answer, report: Report)
     requires { Room text.old 256 }
     ensures { Wrote text.old (report_text answer.done answer.stuck (number_of answer.refusal) (reported_as (Ok report))) text.new }
 {
     count_lines(text, answer.done, answer.stuck);
-    match report {
-        Report::Bound(bound) => bound_lines(text, bound),
-        Report::Kept(bound, cost, gap) => kept_lines(text, bound, cost, gap),
-    }
+    cost_lines(text, report);
     stop_line(text, answer.refusal);
 }
 
@@ -124,7 +134,7 @@ pub fn compose(answer: Answer, report: Result<Report, Refusal>, out: &mut [u8]) 
 
 // Puts the line of a refusal, by its number, at the start of out, and answers its length; in a buffer of fewer than 256
 // bytes nothing, and 0.
-// Kept: any number, as before; a `Refusal` would ask more of callers. The test of room is as in `compose`: with the line as a closure its contract would be handed on for these two calls.
+// Kept: any number; a `Refusal` would ask more of callers. The test of room stands here and in `compose`: one function of both would be handed a closure, and hand on its contract, for two lines.
 pub fn refusal_text(number: u8, out: &mut [u8]) -> usize
     ensures { outputs out.new result ≡ output_of (refused_line number) out.old }
 {
@@ -137,6 +147,7 @@ pub fn refusal_text(number: u8, out: &mut [u8]) -> usize
 }
 
 // What stopped a run, by its number: no record for 0, or a record. Any other number is no record's, and an error.
+// Kept: a function, as `TryFrom` can't be implemented for types of other crates; the error is the number that is printed.
 #[tactic(auto, unfolding(crate::specs::Numbers::stopped_by))]
 fn stopped_by(number: u8) -> Result<Option<Refusal>, u8>
     ensures { result ≡ stopped_by number }

@@ -34,6 +34,7 @@ pub(crate) fn copy(values: &[usize], lent: &mut [u64])
     requires { length lent.old ≡ length values.now }
     ensures { lent.new ≡ values.now }
 {
+    // Kept: by place, as nothing is known of what is written through a `zip` of `iter_mut`.
     for (i, place) in lent.iter_mut().enumerate() {
         // Kept: a usize has 64 bits, and there is no `From`; `try_from` would add a case that cannot happen.
         *place = values[i] as u64;

@@ -1,6 +1,6 @@
 -- The least usable cell of an edge's table, found stretch by stretch between the unusable cells.
 -- Assumes nothing.
-use Rattle.std.proofs.Common.{◌≡◌, ℕ, ◌+◌, ◌-◌, ◌*◌, ◌<◌, ◌≤◌, Bool, true, false, not, eqb, ltb, None, List, ◌++◌, map, length, get_or, take, drop, ℤ, pos, sym, refl, ap, ◌∙◌, append-nil, arith, ltb-false, ltb-true, eq-eqb, ne_eqb}
+use Rattle.std.proofs.Common.{◌≡◌, ℕ, ◌+◌, ◌-◌, ◌*◌, ◌<◌, ◌≤◌, Bool, true, false, not, eqb, ltb, None, List, ◌++◌, map, length, get_or, take, drop, ℤ, pos, sym, refl, ap, ◌∙◌, subst, add-mul, append-nil, arith, ltb-false, ltb-true, eq-eqb, ne_eqb}
 use mathlib.Core.List.{map-append}
 use lib.ListN.{length-map}
 use Rattle.integers.specs.Least.{least_from, least_of}
@@ -90,19 +90,23 @@ usable_some {b} {own} {other} {cells} e =
     let z = length-map (usable_of b own other (length cells)) (λ i. get_or cells i (pos 0)) in omega (arith, e.some)
 
 -- a walk over the rows, of which k are behind: the next begins at `row`
-pub record Passing (low high : List ℕ) (cells : List ℤ) (best : ℤ) (from row k : ℕ) : Type 0 where
+pub record Passing (low high : List ℕ) (cells : List ℤ) (best : ℤ) (from k : ℕ) : Type 0 where
   pub inside : k ≤ length low
-  pub start : row ≡ k * length high
-  pub gathered : Gathered (usable_in true low high) unbounded cells best from row
+  pub gathered : Gathered (usable_in true low high) unbounded cells best from (k * length high)
 
-pub passing_none : (low high : List ℕ) (cells : List ℤ) → Passing low high cells unbounded 0 0 0
-passing_none low high cells = record { inside = omega arith; start = omega arith; gathered = gathered_none (usable_in true low high) unbounded cells }
+pub passing_none : (low high : List ℕ) (cells : List ℤ) → Passing low high cells unbounded 0 0
+passing_none low high cells =
+    let z : 0 ≡ 0 * length high = omega arith in
+    record { inside = omega arith; gathered = subst (Gathered (usable_in true low high) unbounded cells unbounded 0) z (gathered_none (usable_in true low high) unbounded cells) }
 
-module _ {low high : List ℕ} {cells : List ℤ} {best : ℤ} {from row k : ℕ} (e : Ends true low high cells) (g : Passing low high cells best from row k) where
+module _ {low high : List ℕ} {cells : List ℤ} {best : ℤ} {from k : ℕ} (e : Ends true low high cells) (g : Passing low high cells best from k) where
+  abbrev row : ℕ
+  row = k * length high
+
   pub passing_done : length low ≤ k → Within cost_limit cells → least_from best (take (length cells - from) (drop from cells)) ≡ least_of (usable_cells true low high cells)
   passing_done h w =
       let q : k ≡ length low = omega (arith, g.inside) in
-      let z : length cells ≡ row = e.shape.size ∙ sym (g.start ∙ ap (λ (n : ℕ). n * length high) q) in
+      let z : length cells ≡ row = e.shape.size ∙ sym (ap (λ (n : ℕ). n * length high) q) in
       gathered_least (gathered_clear g.gathered (omega arith) (omega arith) (λ j a b. absurd (omega arith)))
       ∙ least_bounded (usable_cells true low high cells) (within_map cost_limit (λ j. get_or cells j (pos 0)) (usable_of true low high (length cells)) w) (usable_some e)
 
@@ -111,26 +115,28 @@ module _ {low high : List ℕ} {cells : List ℤ} {best : ℤ} {from row k : ℕ
     row_test : (j : ℕ) → row ≤ j → j < row + length high → usable_in true low high j ≡ not (eqb (j - row) skip)
     row_test j a b =
         let p = j - row in
-        let q : j ≡ k * length high + p = omega (arith, g.start) in
+        let q : j ≡ k * length high + p = omega arith in
         ap (usable_in true low high) q ∙ usable_at true low high k p (omega arith) ∙ z p (omega arith)
 
     row_clear : (j : ℕ) → row ≤ j → j < row + length high → (j ≡ row + skip → ⊥) → usable_in true low high j ≡ true
     row_clear j a b d = row_test j a b ∙ ap not (ne_eqb (j - row) skip (λ q. d (omega arith)))
 
     passing_more : {best' : ℤ} {from' : ℕ} → Gathered (usable_in true low high) unbounded cells best' from' (row + length high)
-        → Passing low high cells best' from' (row + length high) (k + 1)
-    passing_more f = record { inside = omega arith; start = omega (arith, g.start); gathered = f }
+        → Passing low high cells best' from' (k + 1)
+    passing_more {best'} {from'} f =
+        let next : row + length high ≡ (k + 1) * length high = omega (arith, add-mul k 1 (length high)) in
+        record { inside = omega arith; gathered = subst (Gathered (usable_in true low high) unbounded cells best' from') next f }
 
-    passing_clear : length high ≤ skip → Passing low high cells best from (row + length high) (k + 1)
+    passing_clear : length high ≤ skip → Passing low high cells best from (k + 1)
     passing_clear l = passing_more (gathered_clear g.gathered (omega arith) m (λ j a b. row_clear j a b (λ q. omega arith)))
 
     pub passing_skip : skip < length high → {best' : ℤ} → best' ≡ least_from best (take (row + skip - from) (drop from cells))
-        → Passing low high cells best' (row + skip + 1) (row + length high) (k + 1)
+        → Passing low high cells best' (row + skip + 1) (k + 1)
     passing_skip l t =
         let before = gathered_clear g.gathered {n = row + skip} (omega arith) (omega arith) (λ j a b. row_clear j a (omega arith) (λ q. omega arith)) in
         let here = row_test (row + skip) (omega arith) (omega arith) ∙ ap not (eq-eqb (row + skip - row) skip (omega arith)) in
         passing_more (gathered_clear (gathered_cut before (omega arith) here t) (omega arith) m (λ j a b. row_clear j (omega arith) b (λ q. omega arith)))
 
   -- the same where all of it is usable
-  pub passing_whole : k < length low → row + length high ≤ length cells → Skips high (get_or low k 0) None → Passing low high cells best from (row + length high) (k + 1)
+  pub passing_whole : k < length low → row + length high ≤ length cells → Skips high (get_or low k 0) None → Passing low high cells best from (k + 1)
   passing_whole h m x = passing_clear (length high) h m (skips_past x) (omega arith)

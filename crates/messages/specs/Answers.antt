@@ -14,6 +14,11 @@ reported_as (Err r) = calls.refused (number r)
 reported_as (Ok (Bound z)) = calls.bound z
 reported_as (Ok (Kept z p g)) = calls.kept z p g
 
+-- the bound of either
+abbrev pub bound_of : Report → ℤ
+bound_of (Bound z) = z
+bound_of (Kept z p g) = z
+
 -- a bound beside the kept matching's cost, with the gap; 14 where the bound exceeds it
 abbrev pub against : ℤ → ℤ → calls.Report
 against z p = cond (int_le z p) (calls.kept z p (p -ℤ z)) (calls.refused 14)

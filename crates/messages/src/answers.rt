@@ -1,4 +1,7 @@
 // What a report and a run answer.
+ghost use Rattle.std.specs.Prelude.{◌≡◌};
+ghost use Rattle.messages.specs.Answers.{bound_of};
+
 use instance::Refusal;
 
 #[derive(Clone, Copy, Debug, PartialEq, Eq)]
@@ -7,6 +10,18 @@ pub enum Report {
     Bound(i64),
     // the bound, the kept matching's cost on the sheet, and the gap
     Kept(i64, i64, i64),
+}
+
+impl Report {
+    // The bound, which each report has.
+    pub fn bound(self) -> i64
+        ensures { result ≡ bound_of self }
+    {
+        match self {
+            Report::Bound(bound) => bound,
+            Report::Kept(bound, _, _) => bound,
+        }
+    }
 }
 
 // How many records a run finished, how many roundings were stuck, and the refusal that stopped it.

@@ -5,7 +5,7 @@ ghost use Rattle.messages.specs.Clash.{Rising, Skips, bit_at, Masks};
 use instance::usable;
 
 // One bit of 64 for a label.
-// Kept: beside the `bit_of` of `placing`, which is of labels below 64; this one is of any label, so that two may share a bit.
+// Kept: it and `mask_of` beside those of `placing`, which are of labels below 64; these are of any label, so that two may share a bit.
 fn bit_of(label: u8) -> u64
     ensures { result ≡ bit_at label }
 {

@@ -20,6 +20,7 @@ use crate::share::Share;
 
 // What the least of a position gives down to the least of all, turned round, and 0 if it has no usable cell.
 // Kept: that costs are within the limit is asked for here, in `turn_all` and in `excess_with`, as in `share_of`.
+// Kept: `UNBOUNDED` and no `Option` for a position without a usable cell, as the array of the leasts becomes that of the amounts.
 #[tactic(auto, using(integers::proofs::Bits::answer, integers::proofs::Share::share_back), unfolding(crate::specs::EdgeMessage::turned_least))]
 fn turned_least(cost: i64, low: i64, share: Share) -> i64
     requires { (cost <ℤ unbounded → unsigned_abs cost ≤ cost_limit) × (unsigned_abs low ≤ cost_limit) }
@@ -77,6 +78,7 @@ fn excess_line(line: &[i64], k: usize, end: End, amounts: &Amounts, limit: Limit
 }
 
 // Adds to each cell of the k-th row of a table its amount.
+// Kept: the end and the amounts one by one, here and in the tests: a node's row takes the amounts as the higher end's, whichever end it is. The limit is the call's.
 // Kept: it and `move_cells` are over slices, and no methods of a struct that holds them as `&mut`. Tried; of a buffer of which a part was lent to such a struct the proof then knows no more than its length.
 pub(crate) fn move_line(line: &mut [i64], k: usize, end: End, amounts: &Amounts)
     requires { Line k line.old }

@@ -13,6 +13,7 @@ use crate::share::Share;
 use instance::{Refusal, Sheet};
 
 // A record of kind 1 between its node and its edge, or, turned round, of kind 2: the amounts, the tests, and then the writes.
+// Kept: that the record exists is asked for, once: its one caller has just tested it.
 // Kept: over the two buffers: a method would have to show what a `State` promises by itself, which the record's own method has from the law of all records.
 pub(crate) fn move_edge(
     sheet: &Sheet,

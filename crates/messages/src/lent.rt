@@ -50,6 +50,7 @@ fn incumbent_ok(sheet: &Sheet, x: &[u8]) -> bool
 }
 
 // The first refusal of what is lent with a sheet that was read.
+// Kept: the limit beside what is lent, here, in `costs_ok` and in `start`: it is the call's, and no fact of the buffers.
 pub(crate) fn check_lent(sheet: &Sheet, limit: Limit, lent: Lent) -> Result<(), Refusal>
     ensures { refused_in result ≡ lent_refusal sheet.now.bytes.now limit.most (lent_of lent.entry) }
 {

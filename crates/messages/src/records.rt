@@ -129,6 +129,7 @@ fn legal_position(sheet: &Sheet, step: Record) -> bool
 
 impl State<'_> {
     // A message between a node and an edge: kinds 1 and 2.
+    // Kept: the way beside the record, here and where both are handed on: a rounding names as much and has no way, and a struct of both would be made in two arms of one `match`.
     pub(crate) fn edge_record(&mut self, flow: Flow, step: Record) -> Result<(), Refusal>
         ensures same { Same self.old self.new }
         ensures left { settle (buffers_in self.new) 0 (refused_in result) ≡ leaves self.old (message (edge_message flow)) step }

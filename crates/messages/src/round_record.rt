@@ -14,7 +14,11 @@ use instance::Refusal;
 fn names_nothing(step: Record) -> bool
     ensures { result ≡ (step.node == 0 && step.index == 0 && step.share == 0) }
 {
-    step.node == 0 && step.index == 0 && step.share == 0
+    step == Record {
+        node: 0,
+        index: 0,
+        share: 0,
+    }
 }
 
 impl State<'_> {

@@ -152,6 +152,7 @@ fn raised(cost: i64, limit: Limit) -> u64
 }
 
 // A quick test, which may fail for costs within half the limit as well: if it does not, each cost is, so that two add up to no more than the limit.
+// Kept: beside `all_in_range`, which says for each list whether all its costs are within the limit; this one promises one side, of another bound.
 pub(crate) fn all_half(costs: &[i64], limit: Limit) -> bool
     ensures { result ≡ true → Within (limit.most / 2) costs.now }
 {

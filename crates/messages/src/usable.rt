@@ -19,14 +19,12 @@ pub(crate) fn usable_least(cells: &[i64], low: &[u8], high: &[u8]) -> i64
     let mask = mask_of(high);
     let mut best = UNBOUNDED;
     let mut from = 0;
-    let mut row = 0;
-    for label in low {
+    for (k, label) in low.iter().enumerate() {
         if let Some(skip) = clash(high, mask, *label) {
-            let to = row + skip;
+            let to = k * width + skip;
             best = least(&cells[from..to], best);
             from = to + 1;
         }
-        row += width;
     }
     least(&cells[from..], best)
 }

@@ -39,6 +39,7 @@ fn write_positions(nodes: &Nodes, taken: &[u8; 64], out: &mut [u8])
     requires { (length out.old ≤ 64) × ((u : ℕ) → u < length out.old → rank (entry nodes.now.sets u) (entry taken.now u) < 16) }
     ensures { out.new ≡ tabulate (length out.old) (λ u. rank (entry nodes.now.sets u) (entry taken.now u)) }
 {
+    // Kept: by place, as nothing is known of what is written through a `zip` of `iter_mut`.
     for (u, position) in out.iter_mut().enumerate() {
         *position = rank_of(nodes.sets[u], taken[u]);
     }

@@ -20,6 +20,7 @@ pub struct Case<'a> {
 
 impl<'a> Case<'a> {
     // The one place where an op is chosen.
+    // Kept: a `match` on an enum, as some of the nine change the case and some are lent its sheet alone.
     pub fn call(&mut self, op: Op, reader: &mut Reader) -> Option<bool> {
         match op {
             Op::Open => self.open(reader),

@@ -11,6 +11,18 @@ pub(crate) enum Kind {
     Round = 5,
 }
 
+impl From<Kind> for u8 {
+    ghost use Rattle.std.specs.Prelude.{◌≡◌};
+    ghost use Rattle.schedule.specs.Writing.{kind_number};
+
+    ghost from_gives = { λ kind n. n ≡ kind_number kind };
+
+    fn from(kind: Kind) -> u8 {
+        // Kept: `as` is how Rust reads a variant's number.
+        kind as u8
+    }
+}
+
 // A buffer, of which the bytes ahead of `at` are written.
 // Kept: the room that is asked for is the piece's own number of records, and so no fact of the type.
 #[derive(Drop)]
@@ -33,8 +45,7 @@ impl Writer<'_> {
         let [low, high] = index.to_le_bytes();
         let at = self.at;
         // Kept: five stores. With `copy_from_slice` of an array of them a sweep takes twice as long, past 1.5 times the Rust program's time, for the array is read back before it is stored.
-        // Kept: `as`, which is how Rust reads a variant's number; a `From` would list the five once more.
-        self.out[at] = kind as u8;
+        self.out[at] = u8::from(kind);
         self.out[at + 1] = node;
         self.out[at + 2] = low;
         self.out[at + 3] = high;

@@ -1,6 +1,6 @@
--- `usable_least` meets its contract. The loop's invariant: `best` is the least usable cell before `from`, and the cells from there up to the row are usable.
+-- `usable_least` meets its contract. The loop's invariant: `best` is the least usable cell before `from`, and the cells from there up to the k-th row are usable.
 use Rattle.messages.proofs.UsableLeast.{Passing}
 use Rattle.messages.proofs.usable.usable_least.Given as goal
 
-abbrev pub invariant-loop-label : goal.invariant-loop-label
-invariant-loop-label l = Passing l.low l.high l.cells l.best l.from l.row l.label-index
+abbrev pub invariant-loop-k : goal.invariant-loop-k
+invariant-loop-k l = Passing l.low l.high l.cells l.best l.from l.k
