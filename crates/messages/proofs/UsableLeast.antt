@@ -89,7 +89,7 @@ pub usable_some : {b : Bool} {own other : List ℕ} {cells : List ℤ} → Ends 
 usable_some {b} {own} {other} {cells} e =
     let z = length-map (usable_of b own other (length cells)) (λ i. get_or cells i (pos 0)) in omega (arith, e.some)
 
--- a walk over the rows, of which k are behind: the next begins at `row`
+-- a walk over the rows, of which k are behind
 pub record Passing (low high : List ℕ) (cells : List ℤ) (best : ℤ) (from k : ℕ) : Type 0 where
   pub inside : k ≤ length low
   pub gathered : Gathered (usable_in true low high) unbounded cells best from (k * length high)

@@ -96,7 +96,7 @@ impl State<'_> {
     }
 
     // Where the place of a record stands in the costs.
-    // Kept: that it has such a place is asked for here and in `given`: their one caller has just tested it.
+    // Kept: that it has such a place is asked for here and in `given`: the record's own method calls both, and has just tested it.
     pub(crate) fn place_of(&self, step: Record) -> usize
         requires { PlaceAsked (instance_in self.now) step.node step.index step.share }
         ensures { result ≡ first (instance_in self.now) step.node + step.index }

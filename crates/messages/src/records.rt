@@ -96,6 +96,7 @@ fn exclusive_at(sheet: &Sheet, u: usize, k: usize) -> bool
 }
 
 // Whether the share and the node exist.
+// Kept: the sheet and the record one by one, in these tests and in those of a node and an edge: a struct of both would be made for one question.
 fn legal_node(sheet: &Sheet, step: Record) -> bool
     ensures { result ≡ (legal_share step.share && nat_lt step.node (instance_of sheet.now.bytes.now).node_count) }
 {

@@ -125,6 +125,7 @@ pub(crate) fn in_range(cost: i64, limit: Limit) -> bool
 pub(crate) const OUT: u64 = 0x8000_0000_0000_0000;
 
 // At least `OUT` if a cost passes the limit. Joined by `|`, many costs take one test.
+// Kept: a cost and the limit one by one, here and in three like it: a cost is an element of a buffer.
 #[tactic(auto, using(crate::proofs::ExcessLaws::apart_limit))]
 pub(crate) fn excess(cost: i64, limit: Limit) -> u64
     ensures { nat_lt result (2 ^ 63) ≡ within limit.most cost }

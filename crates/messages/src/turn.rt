@@ -10,7 +10,7 @@ use instance::Refusal;
 
 impl State<'_> {
     // A record in five bytes; a kind that does not exist is refused. How many roundings were stuck, 0 or 1.
-    // Kept: a count, as a run adds them up. The kind is told by a `match`, as it is an enum, and functions in a table would be handed out.
+    // Kept: a count, as a run adds them up. What to do by the kind is a `match` on an enum; a table of functions would be no plainer.
     pub(crate) fn one_record(&mut self, bytes: &[u8; 5]) -> Result<usize, Refusal>
         ensures same { Same self.old self.new }
         ensures left { settle (buffers_in self.new) (stuck_in result) (refused_in result) ≡ settled_by (instance_in self.old) (limit_in self.old) (buffers_in self.old) bytes.now }

@@ -7,7 +7,7 @@ use crate::seats::Seats;
 use crate::words::{has, lowest};
 
 impl<'a> Seats<'a> {
-    // Kept: what a search from the root asks (`Asked`) is asked for here and in `chain`, of the seats as they are before; no value lasts from one to the other.
+    // Kept: what a search from the root asks (`Asked`) is asked for here and in `chain`, as it speaks of where the search began, which the code hands to one of them alone.
     // The label that a search met is free: the node by way of whose label it was found takes it, the label left goes to the one before, and so on to the root.
     fn shift(&mut self, steps: &Steps, met: Meeting, root: usize)
         requires { (start : ℕ) × (before : ℕ) × Asked self.old.nodes.now.sets self.old.taken start before root × Met self.old.reach self.old.free start before steps.now.by steps.now.words met.count met.label }

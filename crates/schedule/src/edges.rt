@@ -1,5 +1,5 @@
 // Records between a node and its edges: kinds 1 and 2. The edges stand in an index by the end that the node is at.
-// Kept: each asks that its node is below 64, as `Index::row` does, and is given the node and the writer one by one; a type for either pair would be made at each turn of the sweeps.
+// Kept: each asks that its node is below 64, as `Index::row` does, and is given the node and the writer one by one; a type for a node, or for both, would be made at each turn of the sweeps.
 ghost use Rattle.std.specs.Prelude.{◌≤◌, ◌<◌, ◌+◌};
 ghost use Rattle.index.specs.Index.{many};
 ghost use Rattle.schedule.specs.Writing.{Wrote, Room, received, sent, passed};

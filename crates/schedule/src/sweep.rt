@@ -36,7 +36,7 @@ impl TryFrom<u8> for Direction {
 }
 
 // The nodes, rising: from the edges to lower nodes, to those to higher nodes, to the labels.
-// Kept: the two indexes one by one, as a backward sweep gives them to `pass` the other way round.
+// Kept: the two indexes one by one, as a backward sweep gives them to `pass` the other way round; the sheet and the writer, as one is read and the other written.
 fn forward(sheet: &Sheet, lower: &Index, higher: &Index, w: &mut Writer)
     requires { Room w.old (length (each (forward_of (instance_of sheet.now.bytes.now) lower.now higher.now) (range 0 sheet.now.nodes))) }
     ensures { Wrote w.old (each (forward_of (instance_of sheet.now.bytes.now) lower.now higher.now) (range 0 sheet.now.nodes)) w.new }
