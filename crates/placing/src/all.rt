@@ -2,6 +2,7 @@
 ghost use Rattle.std.specs.Prelude.{◌≡◌, ℕ, ◌<◌, MatchResult};
 ghost use Rattle.placing.specs.Words.{entry, Seated, Blocked, rows_of, caught};
 
+use crate::search::Steps;
 use crate::seats::Seats;
 
 // A node for which there is no label, the labels that the search for one saw, and the labels that the nodes take.
@@ -20,12 +21,13 @@ impl<'a> Seats<'a> {
         ensures answer { MatchResult result (λ _. Seated self.old.nodes.now.own 0 self.old.nodes.now.count self.new.taken)
             (λ no. Blocked (rows_of self.old.nodes.now.count self.old.nodes.now.sets self.old.nodes.now.own) (caught no.root no.seen no.taken)) }
     {
+        let mut steps = Steps::new();
         for u in 0..self.nodes.count {
             let vanishes = self.nodes.own[u];
             if vanishes {
                 continue;
             }
-            if let Err(seen) = self.chain(self.nodes.sets[u], 0, u) {
+            if let Err(seen) = self.chain(self.nodes.sets[u], 0, u, &mut steps) {
                 return Err(Unplaced {
                     root: u,
                     seen,

@@ -29,7 +29,14 @@ impl<'a> Seats<'a> {
     }
 
     // Places the root at a label of `start`, if others can shift so that it is free; else no node moves, and the answer is the labels seen. No label of `before` is touched.
-    pub(crate) fn chain(&mut self, start: u64, before: u64, root: usize) -> Result<(), u64>
+    // The search goes in `steps`.
+    pub(crate) fn chain(
+        &mut self,
+        start: u64,
+        before: u64,
+        root: usize,
+        steps: &mut Steps,
+    ) -> Result<(), u64>
         requires { Asked self.old.nodes.now.sets self.old.taken start before root }
         ensures same { self.new.nodes.now ≡ self.old.nodes.now }
         ensures placed { IfOk result (λ _. Rooted self.old.taken start before root self.new.taken) }
@@ -40,12 +47,8 @@ impl<'a> Seats<'a> {
             self.give(root, lowest(met));
             return Ok(());
         }
-        let mut steps = Steps {
-            by: [0; 64],
-            words: [0; 64],
-        };
-        let met = self.search(start, before, &mut steps)?;
-        self.shift(&steps, met, root);
+        let met = self.search(start, before, steps)?;
+        self.shift(steps, met, root);
         Ok(())
     }
 }

@@ -15,6 +15,16 @@ pub(crate) struct Steps {
     pub words: [u64; 64],
 }
 
+impl Steps {
+    // Room for a search. What stands in it before does not matter, so that one serves all searches, and is cleared once.
+    pub(crate) fn new() -> Steps {
+        Steps {
+            by: [0; 64],
+            words: [0; 64],
+        }
+    }
+}
+
 // The free label that a search met, and after how many steps.
 #[derive(Clone, Copy)]
 pub(crate) struct Meeting {
