@@ -1,6 +1,6 @@
 -- The indexes of a sheet, as they are made of its bytes.
 -- Assumes nothing.
-use Rattle.std.proofs.Common.{◌≡◌, ℕ, ◌+◌, ◌-◌, ◌*◌, ◌≤◌, List, length, take, drop, sym, subst, arith}
+use Rattle.std.proofs.Common.{◌≡◌, ℕ, ◌+◌, ◌-◌, ◌*◌, ◌≤◌, List, length, take, drop, sym, subst, ap₂, ◌∙◌, arith}
 use denote.Enum.Declared.{tag_of}
 use Rattle.instance.specs.declared.sheet.Sheet.{Sheet}
 use Rattle.instance.specs.Instance.{Instance, first, node_cells}
@@ -12,7 +12,7 @@ use Rattle.messages.specs.contracts.end.End.{the_type as end_type}
 use Rattle.messages.specs.declared.end.End.{End}
 use Rattle.messages.specs.declared.end.End.TheVariants.{Lower, Higher}
 use Rattle.messages.specs.LabelMessage.{Holders}
-use Rattle.messages.specs.Indexes.{Ended}
+use Rattle.messages.specs.Indexes.{place_index, edge_index, Ended}
 
 -- the first byte of an edge is its lower end, the second its higher
 pub end_few : (e : End) → tag_of end_type e ≤ 1
@@ -35,6 +35,19 @@ module _ (x : Sheet) where
   pub ends_inside : x.ends + 1 + 2 * x.edges ≤ length s
   unfolding first instance_of
   ends_inside = omega (arith, x.placed.1, edges_is x, (whole x).whole)
+
+  pub place_index_is : {l : List ℕ} → l ≡ index_of (take (x.prices - x.nodes) (drop x.nodes s)) 1 → l ≡ place_index s
+  place_index_is e =
+      let f : x.prices - x.nodes ≡ node_cells I = omega (arith, labels_between) in
+      e ∙ ap₂ (λ (n a : ℕ). index_of (take n (drop a s)) 1) f (nodes_is x)
+
+  pub edge_index_is : (e : End) {l : List ℕ} {size : ℕ} → size ≡ 2 * x.edges → l ≡ index_of (take size (drop (x.ends + tag_of end_type e) s)) 2 → l ≡ edge_index s e
+  edge_index_is Lower {l} {size} f q =
+      let z : size ≡ 2 * I.edge_count = omega (arith, edges_is x) in
+      q ∙ ap₂ (λ (n a : ℕ). index_of (take n (drop a s)) 2) z (omega (arith, x.placed.1))
+  edge_index_is Higher {l} {size} f q =
+      let z : size ≡ 2 * I.edge_count = omega (arith, edges_is x) in
+      q ∙ ap₂ (λ (n a : ℕ). index_of (take n (drop a s)) 2) z (omega (arith, x.placed.1))
 
   pub holders_made : {l : List ℕ} → l ≡ index_of (take (x.prices - x.nodes) (drop x.nodes s)) 1 → Holders s l
   holders_made e =

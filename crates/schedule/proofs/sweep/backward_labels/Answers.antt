@@ -20,11 +20,11 @@ module _ (p : After-spots) where
   I = instance_of x.bytes.now
 
   lists : each (label_by p.places_by_label-places.result p.spots.result) (falling x.labels) ≡ each (label_at I) (falling I.label_count)
-  lists = label_lists x p.places_by_label-places.ensures p.spots.ensures
+  lists = label_lists x p.places_by_label-places.ensures.rows p.spots.ensures
 
 pub from_labels-requires-clause-rows : goal.from_labels-requires-clause-rows
 from_labels-requires-clause-rows c =
-    let p = (goal.at.from_labels-requires-clause-rows c).After-spots in place_rows (x p) p.places_by_label-places.ensures c.spots.ensures
+    let p = (goal.at.from_labels-requires-clause-rows c).After-spots in place_rows (x p) p.places_by_label-places.ensures.rows c.spots.ensures
 
 pub from_labels-requires-clause-labels_bound : goal.from_labels-requires-clause-labels_bound
 from_labels-requires-clause-labels_bound c = labels_few c.args.sheet.now

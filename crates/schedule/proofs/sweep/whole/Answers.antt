@@ -25,10 +25,10 @@ module _ (p : After-edges_by-higher) where
   I = instance_of p.args.sheet.now.bytes.now
 
   lower : Indexed I.high I.edge_count p.edges_by-lower.result
-  lower = p.edges_by-lower.ensures
+  lower = p.edges_by-lower.ensures.rows
 
   higher : Indexed I.low I.edge_count p.edges_by-higher.result
-  higher = p.edges_by-higher.ensures
+  higher = p.edges_by-higher.ensures.rows
 
   size : length (sweep I (direction_number p.args.direction)) ≡ length (body I p.args.direction) + 1
   unfolding rounding
