@@ -17,6 +17,7 @@ pub mod EdgeLaws
 pub mod UsableLaws
 pub mod UsableLeast
 pub mod RivalLaws
+pub mod LowLaws
 pub mod KeyLaws
 pub mod ChoiceLaws
 pub mod RoundTurns

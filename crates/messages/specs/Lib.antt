@@ -10,6 +10,7 @@ pub mod Rounded
 pub mod RoundRecord
 pub mod Answers
 pub mod EdgeRecord
+pub mod Lows
 pub mod Records
 pub mod Joints
 pub mod Step

@@ -17,6 +17,7 @@ mod labelled;
 mod lent;
 mod limit;
 mod list;
+mod lows;
 mod opening;
 mod records;
 mod reporting;
