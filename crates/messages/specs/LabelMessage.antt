@@ -9,6 +9,8 @@ use Rattle.instance.specs.Instance.{Instance, exclusive, first, node_cells}
 use Rattle.instance.specs.Sheet.{instance_of}
 use Rattle.rules.specs.Places.{node_places, label_places}
 use Rattle.index.specs.Index.{Indexed}
+use Rattle.messages.specs.declared.records.Flow.{Flow}
+use Rattle.messages.specs.declared.records.Flow.TheVariants.{FromNode, ToNode}
 
 -- node and label costs that a move leaves, with its refusal: 0, or 13 where a cost would pass the limit and nothing is written
 pub record Moved : Type 0 where
@@ -51,3 +53,8 @@ pub record PlaceAsked (I : Instance) (u k share : ℕ) : Type 0 where
   pub position : k < I.degree u
   pub exclusive : exclusive (I.label (first I u + k)) ≡ true
   pub some : 1 ≤ share
+
+-- a node, or a label that an index has a row for: what the costs of a message belong to
+abbrev pub Asked : Instance → Flow → ℕ → Type 0
+Asked I FromNode u = u < I.node_count
+Asked I ToNode l = l < 64

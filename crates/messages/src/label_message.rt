@@ -1,21 +1,29 @@
 // Messages between a node and a label: kinds 3 and 4.
-ghost use Rattle.std.specs.Prelude.{◌≡◌, ℕ, ◌+◌, ◌*◌, ◌^◌, ◌<◌, ◌≤◌, true, [], ◌∷◌, map, length, pos, slice_index, slice_index_or, unsigned_abs};
-ghost use Rattle.integers.specs.Least.{least_from};
+ghost use Rattle.std.specs.Prelude.{◌≡◌, ℕ, ◌+◌, ◌^◌, ◌<◌, ◌≤◌, length, pos, slice_index_or, unsigned_abs};
+ghost use Rattle.std.specs.Option.{ForSome};
 ghost use Rattle.integers.specs.Sum.{Within};
-ghost use Rattle.integers.specs.Places.{others};
+ghost use Rattle.instance.specs.Instance.{first, node_cells};
 ghost use Rattle.instance.specs.Refusal.{refused_in};
-ghost use Rattle.instance.specs.Instance.{exclusive, first, node_cells};
+ghost use Rattle.instance.specs.Sheet.{instance_of};
 ghost use Rattle.rules.specs.Calls.{cost_limit};
-ghost use Rattle.messages.specs.LabelMessage.{label_moved, label_move, node_amount, label_amount, label_given, PlaceAsked};
-ghost use Rattle.messages.specs.Records.{to_node};
-ghost use Rattle.messages.specs.State.{instance_in};
+ghost use Rattle.rules.specs.Places.{node_places, label_places};
+ghost use Rattle.rules.specs.Run.{message};
+ghost use Rattle.messages.specs.EdgeMessage.{unbounded};
+ghost use Rattle.messages.specs.LabelMessage.{Holders, label_moved, label_move, PlaceAsked, Asked};
+ghost use Rattle.messages.specs.Lows.{Lowest, LowestFor, costs_for};
+ghost use Rattle.messages.specs.Records.{label_message};
+ghost use Rattle.messages.specs.State.{Same, instance_in, buffers_in, leaves};
+ghost use Rattle.messages.specs.Step.{settle};
 
+use crate::indexes::places_by_label;
 use crate::limit::Limit;
+use crate::lows::{Known, Lows, label_lows, node_lows};
 use crate::records::{Flow, Record};
-use crate::rows::{amount_of, in_range, share_of};
+use crate::rows::in_range;
 use crate::share::Share;
 use crate::state::State;
-use instance::Refusal;
+use index::Index;
+use instance::{Refusal, Sheet};
 
 // Moves `p` from the node cost to the label cost at the place `i`, where both stay within the limit.
 // Kept: over the two buffers, which it asks to be within the limit: a method would have to show what a `State` promises by itself, which the record's own method has from the law of all records.
@@ -45,59 +53,33 @@ pub(crate) fn shift_label(
     Err(Refusal::CostOverflow)
 }
 
-// The less of `best` and the label cost at a place, unless the place is `own`.
-#[tactic(auto, using(crate::proofs::RivalLaws::rival_other, crate::proofs::RivalLaws::rival_own, crate::proofs::RowLaws::less_back, integers::proofs::Bits::answer))]
-fn meet(labels: &[i64], place: usize, own: usize, best: i64) -> i64
-    requires { place < length labels.now }
-    ensures { result ≡ least_from best (map (λ j. slice_index_or labels.now j (pos 0)) (others own (place ∷ []))) }
+// The two least of 0 and the costs of a label, by the index of the places, which is made where it is asked for first.
+// Kept: over the index and the buffer: a method would promise of each field of a `State` that it stays.
+fn holder_lows(sheet: &Sheet, holders: &mut Option<Index>, labels: &[i64], l: usize) -> Lows
+    requires held { ForSome holders.old (Holders sheet.now.bytes.now) }
+    requires label { l < 64 }
+    requires fits { length labels.now ≡ node_cells (instance_of sheet.now.bytes.now) }
+    ensures made { ForSome holders.new (Holders sheet.now.bytes.now) }
+    ensures lows { Lowest (pos 0) (λ i. slice_index_or labels.now i (pos 0)) (label_places (instance_of sheet.now.bytes.now) l) result }
 {
-    if place == own {
-        best
-    } else {
-        best.min(labels[place])
-    }
-}
-
-// The least of 0 and the label's costs at other places than `own`, of the places that have the label.
-fn label_rival(labels: &[i64], places: &[u16], own: usize) -> i64
-    requires { (j : ℕ) → j < length places.now → slice_index places.now j < length labels.now }
-    ensures { result ≡ least_from (pos 0) (map (λ j. slice_index_or labels.now j (pos 0)) (others own places.now)) }
-{
-    let mut best = 0;
-    for place in places {
-        best = meet(labels, usize::from(*place), own, best);
-    }
-    best
+    let index = holders.get_or_insert_with(|| places_by_label(sheet));
+    label_lows(labels, index.row(l))
 }
 
 impl State<'_> {
-    // What the node cost at a position gives to its label: kind 3.
-    fn node_amount(&self, u: usize, k: usize, share: Share) -> i64
-        requires { (u < self.now.run.now.sheet.nodes) × (k < (instance_in self.now).degree u) }
-        ensures { result ≡ node_amount (instance_in self.now) self.now.nodes.now u (first (instance_in self.now) u + k) share.parts }
+    // The two least costs of a node.
+    fn row_lows(&self, u: usize) -> Lows
+        requires { u < self.now.run.now.sheet.nodes }
+        ensures { Lowest unbounded (λ i. slice_index_or self.now.nodes.now i (pos 0)) (node_places (instance_in self.now) u) result }
     {
         let sheet = &self.run.sheet;
-        let at = sheet.starts[u];
-        let to = at + sheet.degree(u);
-        amount_of(&self.nodes[at..to], k, share)
-    }
-
-    // What the label cost at a place gives to the node: kind 4.
-    fn label_amount(&self, place: usize, share: Share) -> i64
-        requires { (place < node_cells (instance_in self.now)) × (exclusive ((instance_in self.now).label place) ≡ true) }
-        ensures { result ≡ label_amount (instance_in self.now) self.now.labels.now place share.parts }
-    {
-        let places = self.run.holders.row(self.run.sheet.label(place));
-        share_of(
-            self.labels[place],
-            label_rival(self.labels, places, place),
-            share,
-        )
+        let from = sheet.starts[u];
+        node_lows(self.nodes, from, from + sheet.degree(u))
     }
 
     // Where the place of a record stands in the costs.
-    // Kept: that it has such a place is asked for here and in `given`: the record's own method calls both, and has just tested it.
-    pub(crate) fn place_of(&self, step: Record) -> usize
+    // Kept: that it has such a place is asked for here and in `move_label`, which calls it: it has just been tested.
+    fn place_of(&self, step: Record) -> usize
         requires { PlaceAsked (instance_in self.now) step.node step.index step.share }
         ensures { result ≡ first (instance_in self.now) step.node + step.index }
     {
@@ -105,15 +87,50 @@ impl State<'_> {
         sheet.starts[step.node] + step.index
     }
 
-    // What goes from the node cost to the label cost at the record's place.
-    pub(crate) fn given(&self, flow: Flow, step: Record) -> i64
-        requires { PlaceAsked (instance_in self.now) step.node step.index step.share }
-        ensures { (result ≡ label_given (instance_in self.now) self.now.nodes.now self.now.labels.now (to_node flow) step.node (first (instance_in self.now) step.node + step.index) step.share) × (unsigned_abs result ≤ 2 ^ 41) }
+    // The two least of the costs among which a message moves one, of a node or of a label: as they are known, or looked for.
+    fn lows(&mut self, flow: Flow, of: usize) -> Lows
+        requires { Asked (instance_in self.old) flow of }
+        ensures same { Same self.old self.new × (buffers_in self.new ≡ buffers_in self.old) }
+        ensures lows { LowestFor (instance_in self.old) self.old.nodes.now self.old.labels.now flow of result }
     {
-        let share = Share { parts: step.share };
-        match flow {
-            Flow::FromNode => self.node_amount(step.node, step.index, share),
-            Flow::ToNode => -self.label_amount(self.place_of(step), share),
+        if let Some(known) = self.known {
+            if known.fits(flow, of) {
+                return known.lows;
+            }
         }
+        match flow {
+            Flow::FromNode => self.row_lows(of),
+            Flow::ToNode => holder_lows(&self.run.sheet, &mut self.holders, self.labels, of),
+        }
+    }
+
+    // The cost at a place that a message moves: the node's, or the label's.
+    fn cost_at(&self, flow: Flow, place: usize) -> i64
+        requires { place < node_cells (instance_in self.now) }
+        ensures { result ≡ costs_for flow self.now.nodes.now self.now.labels.now place }
+    {
+        match flow {
+            Flow::FromNode => self.nodes[place],
+            Flow::ToNode => self.labels[place],
+        }
+    }
+
+    // Moves what the cost at the record's place gives, from the node or to it.
+    pub(crate) fn move_label(&mut self, flow: Flow, step: Record) -> Result<(), Refusal>
+        requires { PlaceAsked (instance_in self.old) step.node step.index step.share }
+        ensures same { Same self.old self.new }
+        ensures left { settle (buffers_in self.new) 0 (refused_in result) ≡ leaves self.old (message (label_message flow)) step }
+    {
+        let place = self.place_of(step);
+        let of = flow.either(step.node, self.run.sheet.label(place));
+        let lows = self.lows(flow, of);
+        let cost = self.cost_at(flow, place);
+        let amount = lows.given(cost, Share { parts: step.share });
+        let limit = self.run.limit;
+        let p = flow.turn(amount);
+        shift_label(self.nodes, self.labels, place, p, limit)?;
+        let lows = lows.moved(cost, cost - amount);
+        self.known = Some(Known { flow, of, lows });
+        Ok(())
     }
 }

@@ -82,6 +82,8 @@ pub fn run(
                 labels,
                 edges,
                 incumbent,
+                holders: None,
+                known: None,
             };
             state.run_all(records)
         }

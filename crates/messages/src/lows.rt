@@ -1,10 +1,13 @@
 // The two least of some costs: a node's, or a label's and the untaken 0. They tell the least beside each of the costs, and stay known while costs move toward it.
-ghost use Rattle.std.specs.Prelude.{◌≡◌, ℕ, ◌-◌, ◌<◌, ◌≤◌, length, pos, slice_index, slice_index_or};
+ghost use Rattle.std.specs.Prelude.{◌≡◌, ℕ, ◌-◌, ◌<◌, ◌≤◌, true, length, pos, ◌<ℤ◌, slice_index, slice_index_or, unsigned_abs};
+ghost use Rattle.rules.specs.Calls.{cost_limit};
 ghost use Rattle.integers.specs.Places.{range};
 ghost use Rattle.messages.specs.EdgeMessage.{unbounded};
-ghost use Rattle.messages.specs.Lows.{Lowest, Apart, lows, lows_with, low_beside, lows_moved};
+ghost use Rattle.messages.specs.Lows.{Lowest, Apart, lows, lows_with, low_beside, lows_moved, given_by};
 
-use crate::rows::UNBOUNDED;
+use crate::records::Flow;
+use crate::rows::{UNBOUNDED, share_of};
+use crate::share::Share;
 
 #[derive(Clone, Copy)]
 pub(crate) struct Lows {
@@ -53,6 +56,20 @@ impl Lows {
         }
     }
 
+    // What one of the costs gives: a share of its distance from the least beside it, and 0 with no other.
+    #[tactic(auto, using(integers::proofs::Bits::answer, integers::proofs::Bits::same), unfolding(crate::specs::Lows::given_by))]
+    pub(crate) fn given(self, cost: i64, share: Share) -> i64
+        requires { (unsigned_abs cost ≤ cost_limit) × (low_beside self cost <ℤ unbounded → unsigned_abs (low_beside self cost) ≤ cost_limit) }
+        ensures { result ≡ given_by cost (low_beside self cost) share.parts }
+    {
+        let low = self.beside(cost);
+        if low < UNBOUNDED {
+            share_of(cost, low, share)
+        } else {
+            0
+        }
+    }
+
     // Once one of the costs has moved toward the least beside it.
     #[tactic(auto, using(crate::proofs::RowLaws::less_back), unfolding(crate::specs::Lows::lows_moved))]
     pub(crate) fn moved(self, from: i64, to: i64) -> Lows
@@ -69,6 +86,23 @@ impl Lows {
                 second: self.second,
             }
         }
+    }
+}
+
+// Those that are known between records: of a node, from which costs go to its labels, or of a label, from which they go to its nodes.
+#[derive(Clone, Copy)]
+pub(crate) struct Known {
+    pub flow: Flow,
+    pub of: usize,
+    pub lows: Lows,
+}
+
+impl Known {
+    // Whether they are those that a record asks for. It promises one side: where it says no, they are looked for again.
+    pub(crate) fn fits(self, flow: Flow, of: usize) -> bool
+        ensures { result ≡ true → (self.flow ≡ flow) × (self.of ≡ of) }
+    {
+        self.flow == flow && self.of == of
     }
 }
 

@@ -1,15 +1,14 @@
 // A record of a list, and the messages: whether what each names exists, and then the move.
-ghost use Rattle.std.specs.Prelude.{◌≡◌, ◌+◌, ◌<◌, ◌≤◌, ◌==◌, ◌&&◌, ◌||◌, length, nat_lt};
+ghost use Rattle.std.specs.Prelude.{◌≡◌, ◌+◌, ◌^◌, ◌<◌, ◌≤◌, ◌==◌, ◌&&◌, ◌||◌, cond, length, nat_lt, neg_ℤ, unsigned_abs};
 ghost use Rattle.instance.specs.Refusal.{refused_in};
 ghost use Rattle.instance.specs.Instance.{exclusive, first};
 ghost use Rattle.instance.specs.Sheet.{instance_of};
 ghost use Rattle.rules.specs.Run.{kind_of, message, legal_share, legal_edge, legal_position};
-ghost use Rattle.messages.specs.Records.{kind_as, head_of, edge_message, label_message};
+ghost use Rattle.messages.specs.Records.{to_node, kind_as, head_of, edge_message, label_message};
 ghost use Rattle.messages.specs.State.{Same, buffers_in, leaves};
 ghost use Rattle.messages.specs.Step.{settle};
 
 use crate::edge_record::move_edge;
-use crate::label_message::shift_label;
 use crate::state::State;
 use instance::{Refusal, Sheet, exclusive};
 
@@ -18,6 +17,29 @@ use instance::{Refusal, Sheet, exclusive};
 pub(crate) enum Flow {
     FromNode,
     ToNode,
+}
+
+impl Flow {
+    // The node that a message comes from, or the label.
+    pub(crate) fn either(self, node: usize, label: usize) -> usize
+        ensures { result ≡ cond (to_node self) label node }
+    {
+        match self {
+            Flow::FromNode => node,
+            Flow::ToNode => label,
+        }
+    }
+
+    // An amount that is given, as what goes from the node.
+    pub(crate) fn turn(self, amount: i64) -> i64
+        requires { unsigned_abs amount ≤ 2 ^ 41 }
+        ensures { result ≡ cond (to_node self) (neg_ℤ amount) amount }
+    {
+        match self {
+            Flow::FromNode => amount,
+            Flow::ToNode => -amount,
+        }
+    }
 }
 
 // What a record does: a message between a node and an edge or a node and a label, or a rounding.
@@ -135,6 +157,8 @@ impl State<'_> {
         ensures same { Same self.old self.new }
         ensures left { settle (buffers_in self.new) 0 (refused_in result) ≡ leaves self.old (message (edge_message flow)) step }
     {
+        // the costs of a node change
+        self.known = None;
         let run = self.run;
         if legal_edge(&run.sheet, step) {
             move_edge(&run.sheet, run.limit, self.nodes, self.edges, flow, step)
@@ -148,11 +172,8 @@ impl State<'_> {
         ensures same { Same self.old self.new }
         ensures left { settle (buffers_in self.new) 0 (refused_in result) ≡ leaves self.old (message (label_message flow)) step }
     {
-        let run = self.run;
-        if legal_position(&run.sheet, step) {
-            let place = self.place_of(step);
-            let p = self.given(flow, step);
-            shift_label(self.nodes, self.labels, place, p, run.limit)
+        if legal_position(&self.run.sheet, step) {
+            self.move_label(flow, step)
         } else {
             Err(Refusal::NoSuchRecord)
         }

@@ -73,15 +73,6 @@ pub(crate) fn least_of(row: &[i64]) -> i64
     least(row, row[0])
 }
 
-// The least of the other costs of a row. That the first of them counts twice changes nothing.
-pub(crate) fn rival(row: &[i64], k: usize) -> i64
-    requires { (k < length row.now) × (1 < length row.now) }
-    ensures { result ≡ least_of (without row.now k) }
-{
-    let other = if k == 0 { 1 } else { 0 };
-    least_but(row, k, row[other])
-}
-
 // A share of `n`, to the nearest whole number. An exact half goes to the even one: it counts as more where the quotient is odd.
 #[tactic(auto, using(integers::proofs::Share::nearest_by))]
 fn nearest_to(n: u64, share: Share) -> u64
@@ -134,8 +125,8 @@ pub(crate) fn excess(cost: i64, limit: Limit) -> u64
     bits.wrapping_add(limit.most) | limit.most.wrapping_sub(bits)
 }
 
-// Whether each cost lies within the limit. It does not stop at the first that does not, so that several are tested at a time.
-pub(crate) fn all_in_range(costs: &[i64], limit: Limit) -> bool
+// Whether each cost lies within the limit, by looking at each. It does not stop at the first that does not, so that several are tested at a time.
+fn each_in_range(costs: &[i64], limit: Limit) -> bool
     ensures { result ≡ every (within limit.most) costs.now }
 {
     let mut all = 0;
@@ -165,15 +156,9 @@ pub(crate) fn all_half(costs: &[i64], limit: Limit) -> bool
     all < 2 * half.most
 }
 
-// What the cost at `k` gives against the others of its row: a share of its distance from the least of them, and 0 with no other.
-// Kept: that its costs are within the limit is asked for. A row is cut from a buffer for this one call; a struct around it would be made and opened at each cut.
-pub(crate) fn amount_of(row: &[i64], k: usize, share: Share) -> i64
-    requires k_in_bounds { k < length row.now }
-    requires within { Within cost_limit row.now }
-    ensures { result ≡ amount (slice_index_or row.now k (pos 0)) (without row.now k) share.parts }
+// Whether each cost lies within the limit, at once if none passes half of it.
+pub(crate) fn all_in_range(costs: &[i64], limit: Limit) -> bool
+    ensures { result ≡ every (within limit.most) costs.now }
 {
-    if row.len() < 2 {
-        return 0;
-    }
-    share_of(row[k], rival(row, k), share)
+    all_half(costs, limit) || each_in_range(costs, limit)
 }

@@ -1,10 +1,9 @@
-// What a run goes by: the sheet, the limit, and two indexes that it makes once, of the places by their labels and of the edges by their higher ends.
+// What a run goes by: the sheet, the limit, and an index that it makes once, of the edges by their higher ends.
 ghost use Rattle.std.specs.Prelude.{◌≡◌};
-ghost use Rattle.messages.specs.LabelMessage.{Holders};
 ghost use Rattle.messages.specs.Rounded.{Lowers};
 
 use crate::end::End;
-use crate::indexes::{edges_by, places_by_label};
+use crate::indexes::edges_by;
 use crate::limit::Limit;
 use index::Index;
 use instance::Sheet;
@@ -13,9 +12,7 @@ use instance::Sheet;
 pub(crate) struct Run<'a> {
     pub sheet: Sheet<'a>,
     pub limit: Limit,
-    pub holders: Index,
     pub lowers: Index,
-    ghost held: { Holders sheet.bytes.now holders },
     ghost lowered: { Lowers sheet.bytes.now lowers },
 }
 
@@ -23,12 +20,10 @@ impl<'a> Run<'a> {
     pub(crate) fn new(sheet: Sheet<'a>, limit: Limit) -> Run<'a>
         ensures { (result.sheet.bytes ≡ sheet.entry.bytes) × (result.limit.most ≡ limit.most) }
     {
-        let holders = places_by_label(&sheet);
         let lowers = edges_by(&sheet, End::Higher);
         Run {
             sheet,
             limit,
-            holders,
             lowers,
         }
     }

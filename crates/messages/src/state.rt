@@ -1,9 +1,15 @@
 // A run under way: what it goes by, and the four buffers that its records change.
 ghost use Rattle.std.specs.Prelude.{◌≡◌};
+ghost use Rattle.std.specs.Option.{ForSome};
+ghost use Rattle.instance.specs.Sheet.{instance_of};
 ghost use Rattle.rules.specs.Calls.{lent_refusal};
 ghost use Rattle.messages.specs.Lent.{lent};
+ghost use Rattle.messages.specs.LabelMessage.{Holders};
+ghost use Rattle.messages.specs.Lows.{Knows};
 
+use crate::lows::Known;
 use crate::running::Run;
+use index::Index;
 
 // Between any two records the buffers are good: lent again they would not be refused.
 // Kept: each method says that the run and the four references are the same (`Same`), since a ghost field speaks of one value and not of two.
@@ -14,5 +20,11 @@ pub(crate) struct State<'a> {
     pub labels: &'a mut [i64],
     pub edges: &'a mut [i64],
     pub incumbent: &'a mut [u8],
+    // the index of the places by their labels, once it is made
+    pub holders: Option<Index>,
+    // the two least costs among which the last message between a node and a label was
+    pub known: Option<Known>,
+    ghost held: { ForSome holders (Holders run.now.sheet.bytes.now) },
+    ghost knows: { ForSome known (Knows (instance_of run.now.sheet.bytes.now) nodes.now labels.now) },
     ghost good: { lent_refusal run.now.sheet.bytes.now run.now.limit.most (lent nodes.now labels.now edges.now incumbent.now) ≡ 0 },
 }

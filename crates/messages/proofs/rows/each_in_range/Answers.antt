@@ -1,9 +1,9 @@
--- `all_in_range` meets its contract: what each cost gives is joined, so the test at the end is that of each cost.
+-- `each_in_range` meets its contract: what each cost gives is joined, so the test at the end is that of each cost.
 use Rattle.std.proofs.Common.{get_or, pos, sym, ap, ◌∙◌, arith, to_z-of_z, w64, rules}
 use Rattle.integers.specs.Checks.{within}
 use Rattle.messages.proofs.RowLaws.{every_is}
 use Rattle.messages.proofs.ExcessLaws.{joining_none, joining_more, joining_all}
-use Rattle.messages.proofs.rows.all_in_range.Goals as goal
+use Rattle.messages.proofs.rows.each_in_range.Goals as goal
 
 pub loop-cost-init : goal.loop-cost-init
 loop-cost-init c = joining_none _ _
