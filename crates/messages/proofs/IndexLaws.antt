@@ -1,13 +1,18 @@
 -- The indexes of a sheet, as they are made of its bytes.
 -- Assumes nothing.
-use Rattle.std.proofs.Common.{◌≡◌, ℕ, ◌+◌, ◌-◌, ◌*◌, ◌≤◌, List, length, take, drop, sym, subst, ap₂, ◌∙◌, arith}
+use Rattle.std.proofs.Common.{◌≡◌, ℕ, ◌+◌, ◌-◌, ◌*◌, ◌<◌, ◌≤◌, eqb, List, length, get_or, take, drop, sym, subst, ap₂, ◌∙◌, arith}
+use mathlib.Core.List.{Memᴰ as Mem}
 use denote.Enum.Declared.{tag_of}
 use Rattle.instance.specs.declared.sheet.Sheet.{Sheet}
 use Rattle.instance.specs.Instance.{Instance, first, node_cells}
 use Rattle.instance.specs.Sheet.{instance_of}
 use Rattle.instance.proofs.Indexes.{labels_indexed, highs_indexed, lows_indexed}
 use Rattle.instance.proofs.Sheets.{whole, nodes_is, edges_is}
-use Rattle.index.specs.Index.{index_of, Indexed}
+use Rattle.index.specs.Index.{index_of, having, held, Indexed}
+use Rattle.index.proofs.Lists.{at_place}
+use Rattle.integers.specs.Places.{range, select}
+use Rattle.integers.proofs.Places.{range_mem, select_mem}
+use Rattle.messages.specs.Lows.{Apart}
 use Rattle.messages.specs.contracts.end.End.{the_type as end_type}
 use Rattle.messages.specs.declared.end.End.{End}
 use Rattle.messages.specs.declared.end.End.TheVariants.{Lower, Higher}
@@ -18,6 +23,24 @@ use Rattle.messages.specs.Indexes.{place_index, edge_index, Ended}
 pub end_few : (e : End) → tag_of end_type e ≤ 1
 end_few Lower = omega arith
 end_few Higher = omega arith
+
+-- ---- a row of any index
+
+-- each thing of a row has its key
+pub row_keyed : {key : ℕ → ℕ} {m : ℕ} {index row : List ℕ} → Indexed key m index → {l : ℕ} → l < 64 → row ≡ held index l → {j : ℕ} → j < length row → (key (get_or row j 0) ≡ l) × (get_or row j 0 < m)
+row_keyed {key} {m} x {l} h e {j} b =
+    subst (λ (r : List ℕ). j < length r → (key (get_or r j 0) ≡ l) × (get_or r j 0 < m)) (sym (e ∙ x.rows l h))
+    (λ b. let a = at_place key l m j b in (a.0, a.2)) b
+
+-- and none stands there twice: those before it are lower
+pub row_apart : {key : ℕ → ℕ} {m : ℕ} {index row : List ℕ} → Indexed key m index → {l : ℕ} → l < 64 → row ≡ held index l → Apart row
+unfolding select
+row_apart {key} {m} x {l} h e =
+    subst Apart (sym (e ∙ x.rows l h))
+    (λ j b n. let a = at_place key l m j b in
+    let thing = get_or (having key l m) j 0 in
+    let low = range_mem 0 thing (select_mem (λ i. eqb (key i) l) (range 0 thing) (subst (Mem thing) (sym a.1) n)).0 in
+    omega (arith, low))
 
 module _ (x : Sheet) where
   abbrev s : List ℕ

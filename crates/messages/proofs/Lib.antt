@@ -16,8 +16,8 @@ pub mod OverLaws
 pub mod EdgeLaws
 pub mod UsableLaws
 pub mod UsableLeast
-pub mod RivalLaws
 pub mod LowLaws
+pub mod LowTurns
 pub mod KeyLaws
 pub mod ChoiceLaws
 pub mod RoundTurns

@@ -61,7 +61,7 @@ module _ (l : List ℤ) (h : Within cost_limit l) where
   pub least_bounded : 0 < length l → least_from unbounded l ≡ least_of l
   least_bounded g = least_of_lem unbounded l g ∙ min_eq_right (omega (linear, abs (least_of l), least_of_within cost_limit l h))
 
-  least_below : least_from unbounded l <ℤ unbounded → nat_abs (least_from unbounded l) ≤ cost_limit
+  pub least_below : least_from unbounded l <ℤ unbounded → nat_abs (least_from unbounded l) ≤ cost_limit
   least_below = least_ind (λ m. m <ℤ unbounded → nat_abs m ≤ cost_limit) unbounded l (pos 0) (λ g. absurd (omega linear)) (λ i _ _. h i)
 
 turned_is : (l : List ℤ) (low : ℤ) (r : ℕ) → Within cost_limit l → turned_least (least_from unbounded l) low r ≡ neg_ℤ (excess l low r)

@@ -1,15 +1,14 @@
 // Messages between a node and a label: kinds 3 and 4.
-ghost use Rattle.std.specs.Prelude.{◌≡◌, ℕ, ◌+◌, ◌^◌, ◌<◌, ◌≤◌, length, pos, slice_index_or, unsigned_abs};
-ghost use Rattle.std.specs.Option.{ForSome};
+ghost use Rattle.std.specs.Prelude.{◌≡◌, ℕ, ◌+◌, ◌^◌, ◌<◌, ◌≤◌, true, length, pos, slice_index_or, unsigned_abs};
+ghost use Rattle.std.specs.Option.{IsSome};
 ghost use Rattle.integers.specs.Sum.{Within};
 ghost use Rattle.instance.specs.Instance.{first, node_cells};
 ghost use Rattle.instance.specs.Refusal.{refused_in};
-ghost use Rattle.instance.specs.Sheet.{instance_of};
 ghost use Rattle.rules.specs.Calls.{cost_limit};
 ghost use Rattle.rules.specs.Places.{node_places, label_places};
-ghost use Rattle.rules.specs.Run.{message};
+ghost use Rattle.rules.specs.Run.{message, legal_position};
 ghost use Rattle.messages.specs.EdgeMessage.{unbounded};
-ghost use Rattle.messages.specs.LabelMessage.{Holders, label_moved, label_move, PlaceAsked, Asked};
+ghost use Rattle.messages.specs.LabelMessage.{label_moved, label_move, PlaceAsked, Asked};
 ghost use Rattle.messages.specs.Lows.{Lowest, LowestFor, costs_for};
 ghost use Rattle.messages.specs.Records.{label_message};
 ghost use Rattle.messages.specs.State.{Same, instance_in, buffers_in, leaves};
@@ -22,8 +21,7 @@ use crate::records::{Flow, Record};
 use crate::rows::in_range;
 use crate::share::Share;
 use crate::state::State;
-use index::Index;
-use instance::{Refusal, Sheet};
+use instance::Refusal;
 
 // Moves `p` from the node cost to the label cost at the place `i`, where both stay within the limit.
 // Kept: over the two buffers, which it asks to be within the limit: a method would have to show what a `State` promises by itself, which the record's own method has from the law of all records.
@@ -53,20 +51,28 @@ pub(crate) fn shift_label(
     Err(Refusal::CostOverflow)
 }
 
-// The two least of 0 and the costs of a label, by the index of the places, which is made where it is asked for first.
-// Kept: over the index and the buffer: a method would promise of each field of a `State` that it stays.
-fn holder_lows(sheet: &Sheet, holders: &mut Option<Index>, labels: &[i64], l: usize) -> Lows
-    requires held { ForSome holders.old (Holders sheet.now.bytes.now) }
-    requires label { l < 64 }
-    requires fits { length labels.now ≡ node_cells (instance_of sheet.now.bytes.now) }
-    ensures made { ForSome holders.new (Holders sheet.now.bytes.now) }
-    ensures lows { Lowest (pos 0) (λ i. slice_index_or labels.now i (pos 0)) (label_places (instance_of sheet.now.bytes.now) l) result }
-{
-    let index = holders.get_or_insert_with(|| places_by_label(sheet));
-    label_lows(labels, index.row(l))
-}
-
 impl State<'_> {
+    // Makes the index of the places by their labels, where no record has asked for it before.
+    fn make_holders(&mut self)
+        ensures same { Same self.old self.new × (buffers_in self.new ≡ buffers_in self.old) }
+        ensures made { IsSome self.new.holders }
+    {
+        if self.holders.is_none() {
+            self.holders = Some(places_by_label(&self.run.sheet));
+        }
+    }
+
+    // The two least of 0 and the costs of a label.
+    // Kept: that the index is made is asked for: its one caller has just made it.
+    fn holder_lows(&self, l: usize) -> Lows
+        requires label { l < 64 }
+        requires made { IsSome self.now.holders }
+        ensures { Lowest (pos 0) (λ i. slice_index_or self.now.labels.now i (pos 0)) (label_places (instance_in self.now) l) result }
+    {
+        let holders = self.holders.as_ref().unwrap();
+        label_lows(self.labels, holders.row(l))
+    }
+
     // The two least costs of a node.
     fn row_lows(&self, u: usize) -> Lows
         requires { u < self.now.run.now.sheet.nodes }
@@ -91,7 +97,7 @@ impl State<'_> {
     fn lows(&mut self, flow: Flow, of: usize) -> Lows
         requires { Asked (instance_in self.old) flow of }
         ensures same { Same self.old self.new × (buffers_in self.new ≡ buffers_in self.old) }
-        ensures lows { LowestFor (instance_in self.old) self.old.nodes.now self.old.labels.now flow of result }
+        ensures lows { LowestFor (instance_in self.new) self.new.nodes.now self.new.labels.now flow of result }
     {
         if let Some(known) = self.known {
             if known.fits(flow, of) {
@@ -100,7 +106,10 @@ impl State<'_> {
         }
         match flow {
             Flow::FromNode => self.row_lows(of),
-            Flow::ToNode => holder_lows(&self.run.sheet, &mut self.holders, self.labels, of),
+            Flow::ToNode => {
+                self.make_holders();
+                self.holder_lows(of)
+            }
         }
     }
 
@@ -116,8 +125,9 @@ impl State<'_> {
     }
 
     // Moves what the cost at the record's place gives, from the node or to it.
+    // Kept: that the record exists is asked for, once: its one caller has just tested it.
     pub(crate) fn move_label(&mut self, flow: Flow, step: Record) -> Result<(), Refusal>
-        requires { PlaceAsked (instance_in self.old) step.node step.index step.share }
+        requires { legal_position (instance_in self.old) step.node step.index step.share ≡ true }
         ensures same { Same self.old self.new }
         ensures left { settle (buffers_in self.new) 0 (refused_in result) ≡ leaves self.old (message (label_message flow)) step }
     {
@@ -128,6 +138,8 @@ impl State<'_> {
         let amount = lows.given(cost, Share { parts: step.share });
         let limit = self.run.limit;
         let p = flow.turn(amount);
+        // a cost is about to move
+        self.known = None;
         shift_label(self.nodes, self.labels, place, p, limit)?;
         let lows = lows.moved(cost, cost - amount);
         self.known = Some(Known { flow, of, lows });

@@ -10,7 +10,7 @@ use Rattle.instance.specs.Sheet.{instance_of}
 use Rattle.instance.specs.declared.sheet.Sheet.{Sheet}
 use Rattle.instance.proofs.Sheets as sheet
 use Rattle.messages.specs.Rounded.{added, edge_row}
-use Rattle.messages.proofs.RivalLaws.{row_keyed}
+use Rattle.messages.proofs.IndexLaws.{row_keyed}
 use Rattle.messages.proofs.StateLaws.{nodes_fit, edges_fit}
 use Rattle.messages.proofs.KeyLaws.{keys_over, keys_length, keys_small, keys_first, keys_next, keys_all, row_room}
 use Rattle.messages.proofs.state.State.keys_of.Goals as goal
