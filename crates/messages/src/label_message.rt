@@ -138,7 +138,7 @@ impl State<'_> {
         let amount = lows.given(cost, Share { parts: step.share });
         let limit = self.run.limit;
         let p = flow.turn(amount);
-        // a cost is about to move
+        // Kept: a record that is refused leaves the costs as they were, and what is known too; but a run ends there.
         self.known = None;
         shift_label(self.nodes, self.labels, place, p, limit)?;
         let lows = lows.moved(cost, cost - amount);
