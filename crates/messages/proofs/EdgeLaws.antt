@@ -10,11 +10,10 @@ use Rattle.integers.specs.Checks.{below}
 use Rattle.integers.specs.Rows.{part}
 use Rattle.integers.proofs.Share.{share_toward, abs_le}
 use Rattle.integers.proofs.Places.{by_cond, if-true, if-false, length-tabulate, get_d_tabulate}
-use Rattle.integers.proofs.Ranges.{shifted, shifted_ext}
 use Rattle.integers.proofs.Rows.{length_part, get_d_part, within_part, within_map}
 use Rattle.integers.proofs.Checks.{below_ext}
 use Rattle.rules.specs.Calls.{cost_limit}
-use Rattle.messages.specs.EdgeMessage.{position_in, node_amounts, usable_of, places_at, usable_cells, cells_at, edge_amounts, taken_of, moved_row, moved_cells, moved_line, Shape, Line, over}
+use Rattle.messages.specs.EdgeMessage.{position_in, node_amounts, usable_of, places_at, usable_cells, cells_at, edge_amounts, moved_cells, moved_line, Shape, Line, over}
 use Rattle.messages.proofs.RowLaws.{every_is, least_of_within, apart_within, neg_fits}
 use Rattle.messages.proofs.OverLaws.{over_zeros, every_made, below_rows}
 
@@ -80,17 +79,7 @@ module _ {w h : ℕ} {l : List ℤ} (s : Shape w h l) where
       (λ k g. sym (every_is t (line k) (pos 0) ∙ ap (λ (n : ℕ). below n (λ j. t (get_or (line k) j (pos 0)))) (line_length b v k g)
       ∙ below_ext w (λ j. t (get_or (line k) j (pos 0))) (λ j. t (f (k * w + j))) (λ j q. ap t (line_at_lem b v k j g q))))
 
--- ---- the row receives the amounts negated
-
-pub taken_row : (amounts row : List ℤ) → length row ≤ 16 → shifted (λ k. get_or (taken_of amounts) k (pos 0)) row ≡ moved_row amounts row
-taken_row amounts row h =
-    shifted_ext (λ k. get_or (taken_of amounts) k (pos 0)) (λ k. neg_ℤ (get_or amounts k (pos 0))) row (λ k g. get_d_tabulate 16 (λ k. neg_ℤ (get_or amounts k (pos 0))) k (pos 0) (omega arith))
-
 -- ---- no amount passes twice the limit
-
-pub taken_within : (amounts : List ℤ) → Within (2 ^ 41) amounts → Within (2 ^ 41) (taken_of amounts)
-unfolding tabulate
-taken_within amounts h = within_map (2 ^ 41) (λ k. neg_ℤ (get_or amounts k (pos 0))) (range 0 16) (λ k. neg_fits (get_or amounts k (pos 0)) (h k))
 
 share_within : (x b : ℤ) (r : ℕ) → nat_abs x ≤ cost_limit → nat_abs b ≤ cost_limit → nat_abs (share (x -ℤ b) r) ≤ 2 ^ 41
 share_within x b r h g = omega (arith, abs_le (share_toward (x -ℤ b) r), apart_within x b h g)

@@ -1,16 +1,17 @@
 -- Records of kinds 1 and 2: the amounts by position are the rules' amounts by place, so that what the code leaves of a row and a table is what the rules say.
 -- Assumes nothing.
-use Rattle.std.proofs.Common.{◌≡◌, ℕ, ◌+◌, ◌-◌, ◌*◌, ◌<◌, ◌≤◌, Bool, true, false, cond, ◌&&◌, eqb, ltb, ◌⊎◌, List, ◌++◌, map, length, get_or, take, drop, ℤ, pos, ◌-ℤ◌, neg_ℤ, sym, refl, ap, ◌∙◌, ap₂, ⊎_elim, arith, lt-ltb, eqb-true}
+use Rattle.std.proofs.Common.{◌≡◌, ℕ, ◌+◌, ◌-◌, ◌*◌, ◌^◌, ◌<◌, ◌≤◌, Bool, true, false, cond, ◌&&◌, eqb, ltb, ◌⊎◌, List, ◌++◌, map, length, get_or, take, drop, ℤ, pos, ◌-ℤ◌, neg_ℤ, sym, refl, ap, ◌∙◌, ap₂, ⊎_elim, arith, lt-ltb, eqb-true}
 use mathlib.Core.Path.{transport}
 use borrow.Author.Tests.{eqb-false}
 use borrow.Rule.Slice.PartMut.{put_mid}
 use Rattle.integers.specs.Least.{least_of}
 use Rattle.integers.specs.Share.{share, excess}
+use Rattle.integers.specs.Sum.{Within}
 use Rattle.integers.specs.Places.{select, every}
 use Rattle.integers.specs.Checks.{within}
 use Rattle.integers.specs.Rows.{part}
 use Rattle.integers.proofs.Places.{by_cond, of-cond, if-true, if-false, select_mem, get_d_tabulate}
-use Rattle.integers.proofs.Ranges.{range-part, eqb_same, select-map, shifted, shifted_ext}
+use Rattle.integers.proofs.Ranges.{range-part, eqb_same, select-map, shifted_ext}
 use Rattle.integers.proofs.Rows.{length_part, get_d_part, within_part, part_back, part_kept}
 use Rattle.index.proofs.Lists.{select_ext}
 use Rattle.instance.specs.Instance.{Instance, first, node_cells, table_size, table, edge_cells}
@@ -28,19 +29,19 @@ use Rattle.instance.specs.declared.sheet.Sheet.{Sheet}
 use Rattle.instance.specs.Described.{labels_of}
 use Rattle.instance.proofs.Sheets as sheet
 use Rattle.messages.specs.Step.{Settled, settle, settled}
-use Rattle.messages.specs.EdgeMessage.{position_in, node_amounts, width_of, usable_of, usable_cells, cells_at, edge_amounts, taken_of, moved_row, moved_cells, moved_line, Line, Ends}
-use Rattle.messages.specs.EdgeRecord.{EdgeMove, edge_move, edge_amount, given_row, given_cells, moved_by, edge_moved, EdgeLegal, Joined, amounts_of, fit_parts, parts_moved}
+use Rattle.messages.specs.EdgeMessage.{position_in, node_amounts, width_of, usable_of, usable_cells, cells_at, edge_amounts, moved_row, moved_cells, Ends}
+use Rattle.messages.specs.EdgeRecord.{EdgeMove, edge_move, edge_amount, given_row, given_cells, moved_by, edge_moved, CostsWithin, EdgeLegal, Joined, amounts_of, fit_parts, parts_moved}
 use Rattle.messages.proofs.SheetLaws.{proper}
 use Rattle.messages.proofs.EndLaws.{end_is, end_below, labels_length, width_is, both_sizes, usable_places_lem, cells-length, cells_at_lem, usable_below, usable_cells_lem, ends_of}
-use Rattle.messages.proofs.EdgeLaws.{taken_row}
+use Rattle.messages.proofs.EdgeLaws.{node_within, edge_within}
 
 -- the buffers once both lists are replaced, and what is answered
 abbrev pub edge_settled : Buffers → EdgeMove → Settled
 edge_settled b m = settle (lent m.nodes b.labels m.edges b.incumbent) 0 m.refusal
 
--- the row as the first of a table of one
-pub line_first : {row cells : List ℤ} {by_row : Bool} {own other : List ℕ} → Joined row cells by_row own other → Line 0 row
-line_first j = record { few = j.few; place = omega arith; range = j.row_range }
+-- no amount passes twice the limit
+pub given_within : {row cells : List ℤ} {by_row : Bool} {own other : List ℕ} → Joined row cells by_row own other → (turned : Bool) (r : ℕ) → Within (2 ^ 41) (amounts_of turned by_row own other row cells r)
+given_within {row} {cells} {by_row} {own} {other} j turned r = by_cond (Within (2 ^ 41)) turned (λ _. edge_within by_row own other cells r j.cell_range) (λ _. node_within row r j.row_range)
 
 -- the row from a to b and the table from c to d put back
 abbrev pub put_back : List ℤ → List ℤ → ℕ → ℕ → ℕ → ℕ → EdgeMove → EdgeMove
@@ -175,7 +176,7 @@ module _ (I : Instance) where
 
 -- ---- a record that names what exists, as the code reads the sheet
 
-module _ (x : Sheet) {nodes edges : List ℤ} {u e r : ℕ} (g : EdgeLegal x.bytes.now nodes edges u e r) where
+module _ (x : Sheet) {limit : ℕ} {nodes edges : List ℤ} {u e r : ℕ} (g : EdgeLegal limit x.bytes.now nodes edges u e r) where
   abbrev s : List ℕ
   s = x.bytes.now
 
@@ -198,13 +199,13 @@ module _ (x : Sheet) {nodes edges : List ℤ} {u e r : ℕ} (g : EdgeLegal x.byt
   legal_edge_lem = omega (arith, g.edge, sound.edges_few)
 
 -- what the code reads of the sheet for such a record: whether u is the lower end of e, its labels, and those of the other end
-pub record Found (x : Sheet) (nodes edges : List ℤ) (u e r : ℕ) (b : Bool) (own other : List ℕ) : Type 0 where
-  pub legal : EdgeLegal x.bytes.now nodes edges u e r
+pub record Found (x : Sheet) (limit : ℕ) (nodes edges : List ℤ) (u e r : ℕ) (b : Bool) (own other : List ℕ) : Type 0 where
+  pub legal : EdgeLegal limit x.bytes.now nodes edges u e r
   pub named : b ≡ eqb u ((instance_of x.bytes.now).low e)
   pub own_is : own ≡ labels_of x.bytes.now u
   pub other_is : other ≡ labels_of x.bytes.now (cond b ((instance_of x.bytes.now).high e) ((instance_of x.bytes.now).low e))
 
-module _ {x : Sheet} {nodes edges : List ℤ} {u e r : ℕ} {b : Bool} {own other : List ℕ} (f : Found x nodes edges u e r b own other) where
+module _ {x : Sheet} {limit : ℕ} {nodes edges : List ℤ} {u e r : ℕ} {b : Bool} {own other : List ℕ} (f : Found x limit nodes edges u e r b own other) where
   abbrev R : Instance
   R = instance_of x.bytes.now
 
@@ -282,8 +283,14 @@ module _ {x : Sheet} {nodes edges : List ℤ} {u e r : ℕ} {b : Bool} {own othe
         cell_range = within_part cost_limit c (c + length own * length other - c) edges f.legal.edge_costs.range;
       }
 
+  pub legal_ranged : CostsWithin limit costs cut
+  legal_ranged = record {
+    of_nodes = within_part limit a (a + length own - a) nodes f.legal.ranged.of_nodes;
+    of_edges = within_part limit c (c + length own * length other - c) edges f.legal.ranged.of_edges;
+  }
+
   -- a move, by amounts that the code found
-  module _ (limit : ℕ) (turned : Bool) {amounts : List ℤ} (ea : amounts ≡ amounts_of turned b own other costs cut r) where
+  module _ (turned : Bool) {amounts : List ℤ} (ea : amounts ≡ amounts_of turned b own other costs cut r) where
     abbrev put : EdgeMove → EdgeMove
     put = put_back nodes edges a (a + length own) c (c + length own * length other)
 
@@ -300,22 +307,27 @@ module _ {x : Sheet} {nodes edges : List ℤ} {u e r : ℕ} {b : Bool} {own othe
         put_back nodes edges (fa j) (fa j + ed j) (ec j) (ec j + size j) (parts_moved limit (amounts_of turned (f.named j) (own_here j) (other_here j) k l r) k l (f.named j) (ew j)))
         ∙ parts_are x.bytes.now x.readable nodes edges f.legal.node_costs.size f.legal.edge_costs.size f.legal.node f.legal.edge r turned limit f.legal.touches
 
+    -- whether all stay within the limit
+    abbrev fit : Bool
+    fit = fit_parts limit (amounts_of turned b own other costs cut r) b w costs cut
+
+    fit_is : fit_parts limit amounts b w costs cut ≡ fit
+    fit_is = ap (λ (v : List ℤ). fit_parts limit v b w costs cut) ea
+
     -- written, and refused
-    pub legal_written : fit_parts limit amounts b w costs cut ≡ true → {taken k l : List ℤ} {n : ℕ}
-        → taken ≡ taken_of amounts → k ≡ moved_line false 0 taken costs → n ≡ w → l ≡ moved_cells b n amounts cut
+    pub legal_written : fit ≡ true → {k l : List ℤ} {n : ℕ} → k ≡ moved_row amounts costs → n ≡ w → l ≡ moved_cells b n amounts cut
         → edge_move 0 (put_mid a (a + length own - a) nodes k) (put_mid c (c + length own * length other - c) edges l) ≡ moved
     unfolding parts_moved
-    legal_written t {taken} {k} {l} e p z q =
-        let row = p ∙ ap (λ (v : List ℤ). shifted (λ i. get_or v i (pos 0)) costs) e ∙ taken_row amounts costs legal_joined.few in
+    legal_written t {k} {l} row z q =
         let table = q ∙ ap (λ (n : ℕ). moved_cells b n amounts cut) z in
         (λ j. edge_move 0 (part_back a (a + length own) nodes k (omega arith) j) (part_back c (c + length own * length other) edges l (omega arith) j))
-        ∙ ap put ((λ j. edge_move 0 (row j) (table j)) ∙ sym (if-true _ _ t)) ∙ told
+        ∙ ap put ((λ j. edge_move 0 (row j) (table j)) ∙ sym (if-true _ _ (fit_is ∙ t))) ∙ told
 
-    pub legal_kept : fit_parts limit amounts b w costs cut ≡ false → edge_move 13 nodes edges ≡ moved
+    pub legal_kept : fit ≡ false → edge_move 13 nodes edges ≡ moved
     unfolding parts_moved
     legal_kept t =
         (λ j. edge_move 13 (kept a (a + length own) nodes (omega arith) j) (kept c (c + length own * length other) edges (omega arith) j))
-        ∙ ap put (sym (if-false _ _ t)) ∙ told
+        ∙ ap put (sym (if-false _ _ (fit_is ∙ t))) ∙ told
       where
         kept : (m n : ℕ) (l : List ℤ) → m ≤ n → l ≡ take m l ++ (part l m (n - m) ++ drop n l)
         kept m n l h = let z : m + (n - m) ≡ n = omega arith in sym (part_kept m (n - m) l) ∙ ap (λ (k : ℕ). take m l ++ (part l m (n - m) ++ drop k l)) z

@@ -14,6 +14,7 @@ use Rattle.rules.specs.Calls.{lengths_ok, is_matching, incumbent_ok, lent_checks
 use Rattle.instance.specs.declared.sheet.Sheet.{Sheet}
 use Rattle.instance.proofs.Sheets.{nodes_is, positions_is, cells_is}
 use Rattle.messages.specs.Lent.{NodeFits, EdgeFits}
+use Rattle.messages.specs.EdgeRecord.{CostsWithin}
 use Rattle.messages.proofs.RowLaws.{all_within}
 use Rattle.rules.proofs.Opening.{lengths_are}
 
@@ -66,19 +67,28 @@ module _ (s : List ℕ) (limit : ℕ) (b : Buffers) where
   unfolding in_range
   range_by = λ _. in_range limit b
 
-  -- costs within a limit that the machine's sums bear fit
-  pub fit_of : limit ≤ cost_limit → lengths_ok I b ≡ true → in_range limit b ≡ true → NodeFits s b.nodes × NodeFits s b.labels × EdgeFits s b.edges
-  fit_of w h r =
+  -- each list of costs by itself
+  ranges : in_range limit b ≡ true → Within limit b.nodes × Within limit b.labels × Within limit b.edges
+  ranges r =
       let n = every (within limit) b.nodes in
       let l = every (within limit) b.labels in
       let c = every (within limit) b.edges in
-      let (e1, p3) = and_true (n && l) c (sym range_by ∙ r) in
-      let (p1, p2) = and_true n l e1 in
+      let (e, z) = and_true (n && l) c (sym range_by ∙ r) in
+      let (x, y) = and_true n l e in
+      (all_within limit b.nodes x, all_within limit b.labels y, all_within limit b.edges z)
+
+  pub within_of : in_range limit b ≡ true → CostsWithin limit b.nodes b.edges
+  within_of r = let (x, y, z) = ranges r in record { of_nodes = x; of_edges = z }
+
+  -- costs within a limit that the machine's sums bear fit
+  pub fit_of : limit ≤ cost_limit → lengths_ok I b ≡ true → in_range limit b ≡ true → NodeFits s b.nodes × NodeFits s b.labels × EdgeFits s b.edges
+  fit_of w h r =
+      let (x, y, z) = ranges r in
       let (z1, z2, z3, z4) = lengths_are s b h in
-      (record { size = z1; range = wider b.nodes p1 }, record { size = z2; range = wider b.labels p2 }, record { size = z3; range = wider b.edges p3 })
+      (record { size = z1; range = wider b.nodes x }, record { size = z2; range = wider b.labels y }, record { size = z3; range = wider b.edges z })
     where
-      wider : (l : List ℤ) → every (within limit) l ≡ true → Within cost_limit l
-      wider l p i = omega (arith, all_within limit l p i)
+      wider : (l : List ℤ) → Within limit l → Within cost_limit l
+      wider l x i = omega (arith, x i)
 
   -- not refused: what a run and a report may count on
   pub lent_well : lent_refusal s limit b ≡ 0 → LentWell s limit b

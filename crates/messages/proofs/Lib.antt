@@ -15,6 +15,7 @@ pub mod IncumbentLaws
 pub mod OverLaws
 pub mod EdgeLaws
 pub mod UsableLaws
+pub mod FallLaws
 pub mod UsableLeast
 pub mod LowLaws
 pub mod LowTurns

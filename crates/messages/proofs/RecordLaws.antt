@@ -9,7 +9,7 @@ use Rattle.rules.specs.Run.{legal_share, legal_edge, legal_position}
 use Rattle.rules.proofs.Run.{legal_edge_is, legal_position_is}
 use Rattle.messages.specs.Lent.{NodeFits, EdgeFits}
 use Rattle.messages.specs.LabelMessage.{label_move, label_moved, label_given, PlaceAsked}
-use Rattle.messages.specs.EdgeRecord.{edge_move, edge_moved, EdgeLegal}
+use Rattle.messages.specs.EdgeRecord.{edge_move, edge_moved, CostsWithin, EdgeLegal}
 use Rattle.messages.specs.Records.{label_taken, edge_taken}
 
 -- ---- shares
@@ -62,10 +62,10 @@ module _ (I : Instance) (limit : ℕ) (nodes labels : List ℤ) (turned : Bool) 
   label_refused h = sym (if-false (label_moved limit nodes labels (first I u + k) (label_given I nodes labels turned u (first I u + k) r)) (label_move 12 nodes labels) h)
 
 -- what the moves ask
-pub edge_legal : {s : List ℕ} {nodes edges : List ℤ} → NodeFits s nodes → EdgeFits s edges → (u e r : ℕ) → legal_edge (instance_of s) u e r ≡ true → EdgeLegal s nodes edges u e r
-edge_legal {s} f g u e r h =
+pub edge_legal : {s : List ℕ} {limit : ℕ} {nodes edges : List ℤ} → NodeFits s nodes → EdgeFits s edges → CostsWithin limit nodes edges → (u e r : ℕ) → legal_edge (instance_of s) u e r ≡ true → EdgeLegal limit s nodes edges u e r
+edge_legal {s} f g w u e r h =
     let (a, b, c, d) = legal_edge_is (instance_of s) u e r h in
-    record { node_costs = f; edge_costs = g; node = b; edge = c; touches = d; shares = a }
+    record { node_costs = f; edge_costs = g; ranged = w; node = b; edge = c; touches = d; shares = a }
 
 pub place_asked : (I : Instance) (u k r : ℕ) → legal_position I u k r ≡ true → PlaceAsked I u k r
 place_asked I u k r h =

@@ -1,12 +1,7 @@
 -- Rows of costs as the code goes through them: the least over two parts, a test of each cost, and the range of a cost.
 -- Assumes nothing.
-use Rattle.std.proofs.Common.{◌≡◌, ℕ, zero, suc, ◌*◌, ◌^◌, ◌<◌, ◌≤◌, Bool, true, false, List, [], ◌∷◌, length, get_or, take, drop, drop-drop, ℤ, pos, negsuc, ◌+ℤ◌, ◌-ℤ◌, neg_ℤ, nat_abs, ◌<ℤ◌, sym, refl, ap, ◌∙◌, subst, ap₂, not-suc-le-zero, arith, to_z-of_z, w64, SFits, to_z, of_z}
-use Rattle.std.proofs.lemmas.Iterator.{YieldsList}
-use Rattle.std.proofs.lemmas.List.{get_or_default}
-use Rattle.std.specs.Array.{list_steps, IsMapOf}
+use Rattle.std.proofs.Common.{◌≡◌, ℕ, zero, suc, ◌*◌, ◌^◌, ◌<◌, ◌≤◌, Bool, true, false, List, [], ◌∷◌, length, get_or, take, drop, drop-drop, ℤ, pos, negsuc, ◌+ℤ◌, ◌-ℤ◌, neg_ℤ, nat_abs, ◌<ℤ◌, sym, refl, ap, ◌∙◌, ap₂, not-suc-le-zero, arith, to_z-of_z, w64, SFits, to_z, of_z}
 use Rattle.std.specs.Int.{int_min}
-use Rattle.std.specs.Iterator.{AlwaysYields}
-use denote.Param.Members.{Mut, Called}
 use Rattle.std.specs.Simd.{first_chunks}
 use Rattle.std.proofs.Math.Nat.{mul-suc}
 use Rattle.std.proofs.Common.{int_lt}
@@ -112,6 +107,13 @@ module _ (x y : ℤ) (h : nat_abs x ≤ cost_limit) (g : nat_abs y ≤ 2 ^ 41) w
   pub sum_is : to_z w64 (of_z w64 (to_z w64 (of_z w64 x) +ℤ to_z w64 (of_z w64 y))) ≡ x +ℤ y
   sum_is = to_z-of_z sum_fits ∙ ap₂ ◌+ℤ◌ (to_z-of_z x_fits) (to_z-of_z y_fits)
 
+  -- and what is left of a cost that gives it
+  pub less_fits : SFits w64 (to_z w64 (of_z w64 x) -ℤ to_z w64 (of_z w64 y))
+  less_fits = rw (to_z-of_z x_fits, to_z-of_z y_fits) (omega (linear, sub x y, abs x, abs y))
+
+  pub less_is : to_z w64 (of_z w64 (to_z w64 (of_z w64 x) -ℤ to_z w64 (of_z w64 y))) ≡ x +ℤ neg_ℤ y
+  less_is = to_z-of_z less_fits ∙ ap₂ ◌-ℤ◌ (to_z-of_z x_fits) (to_z-of_z y_fits)
+
 -- the share of a distance below 0, by its size
 pub share_below : (d : ℤ) (r : ℕ) → d <ℤ pos 0 → share d r ≡ neg_ℤ (pos (nearest (nat_abs d) r))
 unfolding share
@@ -148,22 +150,3 @@ chunk_at n zero i l h = absurd (omega arith)
 chunk_at n (suc k) zero l h = let e : n * 0 ≡ 0 = omega arith in ap (λ (j : ℕ). take n (drop j l)) (sym e)
 chunk_at n (suc k) (suc i) l h =
     chunk_at n k i (drop n l) (omega arith) ∙ ap (take n) (drop-drop (n * i) n l) ∙ ap (λ (j : ℕ). take n (drop j l)) (omega (arith, mul-suc n i))
-
--- ---- an array, element by element
-
--- its elements one after the other, and then none
-list_runs : {A : Type 0} (l : List A) → AlwaysYields list_steps (λ x. x) l l
-list_runs [] = λ x j e. cc e
-list_runs (y ∷ l) = (λ j e. cc e, λ x j e. let p : x ≡ y = cc e in let q : l ≡ j = cc e in (p, subst (λ t. AlwaysYields list_steps (λ x. x) t l) q (list_runs l)))
-
-pub list_yields : {A : Type 0} (l : List A) → YieldsList list_steps (λ x. x) l l
-list_yields l = record { runs = list_runs l }
-
--- each is within what all are
-pub element_within : {n : ℕ} (l : List ℤ) → Within n l → (x : ℤ) (k : ℕ) → k < length l → x ≡ get_or l k x → nat_abs x ≤ n
-element_within {n} l w x k h e = rw (e ∙ get_or_default l k x (pos 0) h) (w k)
-
--- what `map` makes of each, by what each call does
-pub mapped_at : {F A B : Type 0} {g : Mut F (A × Unit {0}) B} {f : F} {l : List A} {m : List B} {n : ℕ} (h : A → B) → ((p q : F) (x : A) (y : B) → Called g p (x, tt) y q → y ≡ h x)
-    → IsMapOf g f l m n → (d : A) (e : B) (i : ℕ) → i < n → get_or m i e ≡ h (get_or l i d)
-mapped_at h calls maps d e i l = let (p, q, r) = maps.at i d e l in calls p q _ _ r

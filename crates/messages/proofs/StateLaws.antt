@@ -11,11 +11,12 @@ use Rattle.messages.specs.declared.state.State.{State}
 use Rattle.messages.specs.Lent.{lent, lent_of, NodeFits, EdgeFits}
 use Rattle.messages.specs.State.{Same, instance_in, limit_in, buffers_in, leaves}
 use Rattle.messages.specs.Step.{settle}
-use Rattle.messages.specs.EdgeRecord.{EdgeMove}
+use Rattle.messages.specs.EdgeRecord.{EdgeMove, CostsWithin}
 use Rattle.messages.specs.LabelMessage.{Moved}
 use Rattle.messages.specs.Records.{to_node, edge_message, label_message, edge_taken, label_taken}
 use Rattle.messages.specs.RoundRecord.{RoundMove, round_taken, IncumbentFits}
 use Rattle.messages.specs.Turn.{Good}
+use Rattle.messages.proofs.LentLaws.{within_of}
 use Rattle.messages.proofs.EdgeRecordLaws.{edge_settled}
 use Rattle.messages.proofs.RoundRecordLaws.{round_settled_lem}
 use Rattle.messages.proofs.TurnLaws.{good_lent, fit, incumbent_fits, not_refused, good_next, label_settled, edge_turn, label_turn}
@@ -40,6 +41,9 @@ module _ (s : State) where
 
   pub edges_fit : EdgeFits bytes s.edges.now
   edges_fit = all_fit.2
+
+  pub costs_within : CostsWithin (limit_in s) s.nodes.now s.edges.now
+  costs_within = within_of bytes (limit_in s) (buffers_in s) good.ranged
 
   pub kept_fits : IncumbentFits bytes s.incumbent.now
   kept_fits = incumbent_fits good

@@ -142,7 +142,7 @@ pub own_some : (b : Bool) {own other : List ℕ} {l : List ℤ} → Ends b own o
 own_some true e = e.shape.high
 own_some false e = e.shape.wide
 
-position_below : (b : Bool) {own other : List ℕ} {l : List ℤ} → Ends b own other l → (j : ℕ) → j < length l → position_in b (width_of b own other) j < length own
+pub position_below : (b : Bool) {own other : List ℕ} {l : List ℤ} → Ends b own other l → (j : ℕ) → j < length l → position_in b (width_of b own other) j < length own
 position_below true e j g = (div-lt_iff_lt-mul e.shape.wide).1 (omega (arith, e.shape.size))
 position_below false e j g = mod-lt j e.shape.wide
 
@@ -175,7 +175,7 @@ module _ {b : Bool} {own other : List ℕ} {l : List ℤ} (e : Ends b own other 
   pub low_within : nat_abs low ≤ cost_limit
   low_within = least_of_within cost_limit (usable_cells b own other l) (costs (usable_of b own other (length l)))
 
-  order : (k : ℕ) → low ≤ℤ least_at b own other l k
+  pub order : (k : ℕ) → low ≤ℤ least_at b own other l k
   order k = le_least_mem cost (places_at b own other (length l) k) (omega (linear, abs low, low_within)) (λ j m. least_of_mem cost (select_mem (at k) (usable_of b own other (length l)) m).0)
 
   pub position_within : (k : ℕ) → least_at b own other l k <ℤ unbounded → nat_abs (least_at b own other l k) ≤ cost_limit

@@ -58,10 +58,6 @@ cells_at by_row own other cells k = map (λ j. get_or cells j (pos 0)) (places_a
 unfoldable pub edge_amounts : Bool → List ℕ → List ℕ → List ℤ → ℕ → List ℤ
 edge_amounts by_row own other cells r = tabulate 16 (λ k. neg_ℤ (excess (cells_at by_row own other cells k) (least_of (usable_cells by_row own other cells)) r))
 
--- the amounts negated: what the node's costs receive
-abbrev pub taken_of : List ℤ → List ℤ
-taken_of amounts = tabulate 16 (λ k. neg_ℤ (slice_index_or amounts k (pos 0)))
-
 -- the node's costs once the amounts are given away
 abbrev pub moved_row : List ℤ → List ℤ → List ℤ
 moved_row amounts row = shifted (λ k. neg_ℤ (slice_index_or amounts k (pos 0))) row

@@ -51,10 +51,16 @@ module _ (I : Instance) (nodes edges : List ℤ) where
   unfoldable pub edge_moved : ℕ → Bool → ℕ → ℕ → ℕ → EdgeMove
   edge_moved limit turned u e r = moved_by limit u e (edge_amount turned u e r)
 
--- a record that names what exists, and lent costs that fit: u is an end of edge e
-pub record EdgeLegal (s : List ℕ) (nodes edges : List ℤ) (u e r : ℕ) : Type 0 where
+-- the costs of nodes and of edges, or of a part of each, are within the limit of the call
+pub record CostsWithin (limit : ℕ) (nodes edges : List ℤ) : Type 0 where
+  pub of_nodes : Within limit nodes
+  pub of_edges : Within limit edges
+
+-- a record that names what exists, and lent costs that fit and are within the limit: u is an end of edge e
+pub record EdgeLegal (limit : ℕ) (s : List ℕ) (nodes edges : List ℤ) (u e r : ℕ) : Type 0 where
   pub node_costs : NodeFits s nodes
   pub edge_costs : EdgeFits s edges
+  pub ranged : CostsWithin limit nodes edges
   pub node : u < (instance_of s).node_count
   pub edge : e < (instance_of s).edge_count
   pub touches : (u ≡ (instance_of s).low e) ⊎ (u ≡ (instance_of s).high e)

@@ -1,8 +1,9 @@
 -- A node's row and an edge's table as the code has them in one value: what its parts are, and what a message makes of them.
-use Rattle.std.specs.Prelude.{ℕ, Bool, false, List, ℤ}
+use Rattle.std.specs.Prelude.{◌≡◌, ℕ, ◌<◌, length, Bool, false, List, ℤ}
+use Rattle.integers.specs.Least.{least_from}
 use Rattle.messages.specs.declared.edge_message.Joint.{Joint}
 use Rattle.messages.specs.declared.records.Flow.{Flow}
-use Rattle.messages.specs.EdgeMessage.{by_rows, width_of, height_of, line_at, least_at, moved_cells}
+use Rattle.messages.specs.EdgeMessage.{by_rows, unbounded, width_of, height_of, line_at, least_at, moved_cells}
 use Rattle.messages.specs.EdgeRecord.{amounts_of, fit_parts}
 use Rattle.messages.specs.Records.{to_node}
 
@@ -25,6 +26,10 @@ module _ (j : Joint) where
   -- the least usable one of them
   abbrev pub least_in : ℕ → ℤ
   least_in = least_at (by_rows j.end) j.own.now j.other.now j.cells.now
+
+  -- at each position no unusable cell is lower than the least usable one
+  abbrev pub Above : Type 0
+  Above = (k : ℕ) → k < length j.own.now → least_from unbounded (line_in k) ≡ least_in k
 
   -- what each position gives
   abbrev pub given_in : Flow → ℕ → List ℤ

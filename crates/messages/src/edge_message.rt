@@ -1,12 +1,13 @@
 // Messages between one node's costs and one edge's table: what is given, whether both stay within the limit, and the moves. Document 01, kinds 1 and 2.
-ghost use Rattle.std.specs.Prelude.{◌≡◌, ℕ, ◌^◌, ◌<◌, ◌≤◌, IfSome, length, replicate, pos, ◌+ℤ◌, ◌<ℤ◌, nat_lt, slice_index_or, unsigned_abs};
+ghost use Rattle.std.specs.Prelude.{◌≡◌, ℕ, ◌^◌, ◌<◌, ◌≤◌, IfSome, length, replicate, pos, ◌+ℤ◌, ◌<ℤ◌, nat_lt, slice_index_or, neg_ℤ, false, unsigned_abs};
 ghost use Rattle.integers.specs.Least.{least_from};
 ghost use Rattle.integers.specs.Sum.{Within};
 ghost use Rattle.integers.specs.Places.{every, tabulate};
 ghost use Rattle.integers.specs.Checks.{within};
 ghost use Rattle.rules.specs.Calls.{cost_limit};
-ghost use Rattle.messages.specs.EdgeMessage.{by_rows, node_amounts, edge_amounts, taken_of, moved_cells, moved_line, Shape, Line, over, left_of, unbounded, turned_least};
-ghost use Rattle.messages.specs.EdgeRecord.{Joined};
+ghost use Rattle.messages.specs.EdgeMessage.{by_rows, moved_row, moved_cells, moved_line, Shape, Line, over, left_of, unbounded, turned_least};
+ghost use Rattle.messages.specs.declared.records.Flow.TheVariants.{FromNode, ToNode};
+ghost use Rattle.messages.specs.EdgeRecord.{Joined, CostsWithin};
 
 use crate::amounts::Amounts;
 use crate::clash::{clash, mask_of};
@@ -63,11 +64,19 @@ fn excess_with(cost: i64, amount: i64, limit: Limit) -> u64
     excess(cost + amount, limit)
 }
 
+// At least `OUT` if a cost that gives an amount away does.
+fn excess_without(cost: i64, amount: i64, limit: Limit) -> u64
+    requires { (unsigned_abs cost ≤ cost_limit) × (unsigned_abs amount ≤ 2 ^ 41) }
+    ensures { nat_lt result (2 ^ 63) ≡ within limit.most (cost +ℤ neg_ℤ amount) }
+{
+    excess(cost - amount, limit)
+}
+
 // At least `OUT` if a cell of the k-th row of a table that receives its amount does: by rows one amount serves all, by columns each has its own.
 // Kept: a row is asked, here and in `move_line`, to be a `Line`, since it is cut from a buffer where it is gone through, and a struct around it would be made and opened at each cut.
-fn excess_line(line: &[i64], k: usize, end: End, amounts: &Amounts, limit: Limit) -> u64
+fn excess_line(line: &[i64], k: usize, end: End, amounts: Amounts, limit: Limit) -> u64
     requires { Line k line.now }
-    ensures { nat_lt result (2 ^ 63) ≡ every (within limit.most) (moved_line (by_rows end) k amounts.now.each line.now) }
+    ensures { nat_lt result (2 ^ 63) ≡ every (within limit.most) (moved_line (by_rows end) k amounts.entry.each.now line.now) }
 {
     let mut all = 0;
     for (j, cost) in line.iter().enumerate() {
@@ -78,11 +87,11 @@ fn excess_line(line: &[i64], k: usize, end: End, amounts: &Amounts, limit: Limit
 }
 
 // Adds to each cell of the k-th row of a table its amount.
-// Kept: the end and the amounts one by one, here and in the tests: a node's row takes the amounts as the higher end's, whichever end it is. The limit is the call's.
+// Kept: the end and the amounts one by one, here and in the tests: the amounts are a table's for either end. The limit is the call's.
 // Kept: it and `move_cells` are over slices, and no methods of a struct that holds them as `&mut`. Tried; of a buffer of which a part was lent to such a struct the proof then knows no more than its length.
-pub(crate) fn move_line(line: &mut [i64], k: usize, end: End, amounts: &Amounts)
+fn move_line(line: &mut [i64], k: usize, end: End, amounts: Amounts)
     requires { Line k line.old }
-    ensures { line.new ≡ moved_line (by_rows end) k amounts.now.each line.old }
+    ensures { line.new ≡ moved_line (by_rows end) k amounts.entry.each.now line.old }
 {
     for (j, cost) in line.iter_mut().enumerate() {
         let amount = amounts.each[end.either(k, j)];
@@ -90,18 +99,23 @@ pub(crate) fn move_line(line: &mut [i64], k: usize, end: End, amounts: &Amounts)
     }
 }
 
+// Takes from each cost of a node's row its amount.
+pub(crate) fn take_line(line: &mut [i64], amounts: Amounts)
+    requires few { length line.old ≤ 16 }
+    requires within { Within cost_limit line.old }
+    ensures { line.new ≡ moved_row amounts.entry.each.now line.old }
+{
+    for (k, cost) in line.iter_mut().enumerate() {
+        *cost = *cost - amounts.each[k];
+    }
+}
+
 // Adds to each cell of an edge's table the amount at its position.
 // Kept: the cells are asked to be within the limit: a `Joint` has that promise of what it reads, and what is written has it no longer.
-pub(crate) fn move_cells(
-    cells: &mut [i64],
-    width: usize,
-    height: usize,
-    end: End,
-    amounts: &Amounts,
-)
+pub(crate) fn move_cells(cells: &mut [i64], width: usize, height: usize, end: End, amounts: Amounts)
     requires shape { Shape width height cells.old }
     requires within { Within cost_limit cells.old }
-    ensures { cells.new ≡ moved_cells (by_rows end) width amounts.now.each cells.old }
+    ensures { cells.new ≡ moved_cells (by_rows end) width amounts.entry.each.now cells.old }
 {
     // Kept: a row by its place, since a proof knows nothing of what is written through `chunks_exact_mut`.
     for k in 0..height {
@@ -123,7 +137,7 @@ pub(crate) struct Joint<'a> {
 }
 
 impl Joint<'_> {
-    ghost use Rattle.messages.specs.Joints.{columns, rows, column_in, line_in, least_in, given_in, cells_with, fit_in};
+    ghost use Rattle.messages.specs.Joints.{columns, rows, column_in, line_in, least_in, given_in, cells_with, fit_in, Above};
 
     // How many columns the table has: as many as the higher end has positions.
     pub(crate) fn width(&self) -> usize
@@ -137,18 +151,6 @@ impl Joint<'_> {
         ensures { result ≡ rows self.now }
     {
         self.end.either(self.own.len(), self.other.len())
-    }
-
-    // What each position of the node gives.
-    fn node_amounts(&self, share: Share) -> Amounts
-        ensures { result.each ≡ node_amounts self.now.row.now share.parts }
-    {
-        let low = least_of(self.row);
-        let mut amounts = [0; 16];
-        for (k, cost) in self.row.iter().enumerate() {
-            amounts[k] = share_of(*cost, low, share);
-        }
-        Amounts { each: amounts }
     }
 
     // The least of the column `k` of the table but for its row `skip`, if there is one.
@@ -197,30 +199,9 @@ impl Joint<'_> {
         least
     }
 
-    // What each position of the edge's end gives.
-    fn edge_amounts(&self, share: Share) -> Amounts
-        ensures { result.each ≡ edge_amounts (by_rows self.now.end) self.now.own.now self.now.other.now self.now.cells.now share.parts }
-    {
-        let mut amounts = self.least_by();
-        let many = self.own.len();
-        let low = least_of(&amounts[..many]);
-        turn_all(&mut amounts[..many], low, share);
-        Amounts { each: amounts }
-    }
-
-    // What each position of the node gives, or, turned round, what each position of the edge's end does.
-    pub(crate) fn amounts(&self, flow: Flow, share: Share) -> Amounts
-        ensures { result.each ≡ given_in self.now flow share.parts }
-    {
-        match flow {
-            Flow::FromNode => self.node_amounts(share),
-            Flow::ToNode => self.edge_amounts(share),
-        }
-    }
-
     // Whether each cell that receives the amount at its position stays within the limit.
-    fn each_cell_fits(&self, amounts: &Amounts, limit: Limit) -> bool
-        ensures { result ≡ every (within limit.most) (cells_with self.now amounts.now.each) }
+    fn each_cell_fits(&self, amounts: Amounts, limit: Limit) -> bool
+        ensures { result ≡ every (within limit.most) (cells_with self.now amounts.entry.each.now) }
     {
         let width = self.width();
         let height = self.height();
@@ -235,21 +216,76 @@ impl Joint<'_> {
     }
 
     // The same, at once if no cell and no amount passes half the limit.
-    fn cells_fit(&self, amounts: &Amounts, limit: Limit) -> bool
-        ensures { result ≡ every (within limit.most) (cells_with self.now amounts.now.each) }
+    fn cells_fit(&self, amounts: Amounts, limit: Limit) -> bool
+        ensures { result ≡ every (within limit.most) (cells_with self.now amounts.entry.each.now) }
     {
-        if all_half(&amounts.each, limit) && all_half(self.cells, limit) {
+        let each = amounts.each;
+        if all_half(&each[..self.own.len()], limit) && all_half(self.cells, limit) {
             return true;
         }
         self.each_cell_fits(amounts, limit)
     }
 
-    // Whether the node's costs and the edge's cells stay within the limit. The row receives `taken`, the amounts negated.
-    // Kept: `taken` beside the amounts, as both are written after it.
-    pub(crate) fn fits(&self, amounts: &Amounts, taken: &Amounts, limit: Limit) -> bool
-        requires { taken.now.each ≡ taken_of amounts.now.each }
-        ensures { result ≡ fit_in self.now limit.most amounts.now.each }
+    // Whether the node's costs stay within the limit as they give the amounts.
+    fn row_fits(&self, amounts: Amounts, limit: Limit) -> bool
+        ensures { result ≡ every (within limit.most) (moved_row amounts.entry.each.now self.now.row.now) }
     {
-        excess_line(self.row, 0, End::Higher, taken, limit) < OUT && self.cells_fit(amounts, limit)
+        let mut all = 0;
+        for (k, cost) in self.row.iter().enumerate() {
+            all |= excess_without(*cost, amounts.each[k], limit);
+        }
+        all < OUT
+    }
+
+    // Kind 1: what each position of the node gives, and whether all stay within the limit. The node's costs fall toward their least and stay there, so the cells alone are tested.
+    fn from_node(&self, share: Share, limit: Limit, each: &mut [i64; 16]) -> bool
+        requires zeros { each.old ≡ replicate 16 (pos 0) }
+        requires within { CostsWithin limit.most self.now.row.now self.now.cells.now }
+        ensures given { each.new ≡ given_in self.now FromNode share.parts }
+        ensures fits { result ≡ fit_in self.now limit.most (given_in self.now FromNode share.parts) }
+    {
+        let low = least_of(self.row);
+        for (k, cost) in self.row.iter().enumerate() {
+            each[k] = share_of(*cost, low, share);
+        }
+        self.cells_fit(Amounts { each }, limit)
+    }
+
+    // Kind 2, turned round: what each position of the edge's end gives. The cells fall toward the least usable one; only an unusable one that is lower might pass the limit.
+    fn to_node(&self, share: Share, limit: Limit, each: &mut [i64; 16]) -> bool
+        requires zeros { each.old ≡ replicate 16 (pos 0) }
+        requires within { CostsWithin limit.most self.now.row.now self.now.cells.now }
+        ensures given { each.new ≡ given_in self.now ToNode share.parts }
+        ensures fits { result ≡ fit_in self.now limit.most (given_in self.now ToNode share.parts) }
+    {
+        let passed = self.leasts(each);
+        let many = self.own.len();
+        let low = least_of(&each[..many]);
+        turn_all(&mut each[..many], low, share);
+        let amounts = Amounts { each };
+        self.row_fits(amounts, limit) && (!passed || self.cells_fit(amounts, limit))
+    }
+
+    // What each position of the node gives, or, turned round, what each position of the edge's end does; whether the node's costs and the edge's cells stay within the limit.
+    pub(crate) fn weigh(&self, flow: Flow, share: Share, limit: Limit, each: &mut [i64; 16]) -> bool
+        requires zeros { each.old ≡ replicate 16 (pos 0) }
+        requires within { CostsWithin limit.most self.now.row.now self.now.cells.now }
+        ensures given { each.new ≡ given_in self.now flow share.parts }
+        ensures fits { result ≡ fit_in self.now limit.most (given_in self.now flow share.parts) }
+    {
+        match flow {
+            Flow::FromNode => self.from_node(share, limit, each),
+            Flow::ToNode => self.to_node(share, limit, each),
+        }
+    }
+
+    // The least usable cell of each position. Where the answer is false, it is the least of all cells there: no unusable one is lower.
+    pub(crate) fn leasts(&self, least: &mut [i64; 16]) -> bool
+        requires zeros { least.old ≡ replicate 16 (pos 0) }
+        ensures lows { least.new ≡ over (least_in self.now) (length self.now.own.now) (replicate 16 (pos 0)) }
+        ensures above { result ≡ false → Above self.now }
+    {
+        *least = self.least_by();
+        true
     }
 }

@@ -5,7 +5,8 @@ ghost use Rattle.instance.specs.Sheet.{instance_of};
 ghost use Rattle.messages.specs.EdgeRecord.{edge_move, edge_moved, EdgeLegal};
 ghost use Rattle.messages.specs.Records.{to_node};
 
-use crate::edge_message::{Joint, move_cells, move_line};
+use crate::amounts::Amounts;
+use crate::edge_message::{Joint, move_cells, take_line};
 use crate::end::End;
 use crate::limit::Limit;
 use crate::records::{Flow, Record};
@@ -23,7 +24,7 @@ pub(crate) fn move_edge(
     flow: Flow,
     step: Record,
 ) -> Result<(), Refusal>
-    requires { EdgeLegal sheet.now.bytes.now nodes.old edges.old step.node step.index step.share }
+    requires { EdgeLegal limit.most sheet.now.bytes.now nodes.old edges.old step.node step.index step.share }
     ensures { edge_move (refused_in result) nodes.new edges.new ≡ edge_moved (instance_of sheet.now.bytes.now) nodes.old edges.old limit.most (to_node flow) step.node step.index step.share }
 {
     let u = step.node;
@@ -45,13 +46,13 @@ pub(crate) fn move_edge(
         other,
     };
     let share = Share { parts: step.share };
-    let amounts = joint.amounts(flow, share);
-    let taken = amounts.negated();
-    if joint.fits(&amounts, &taken, limit) {
+    let mut each = [0; 16];
+    if joint.weigh(flow, share, limit, &mut each) {
+        let amounts = Amounts { each: &each };
         let width = joint.width();
         let height = joint.height();
-        move_line(&mut nodes[a..b], 0, End::Higher, &taken);
-        move_cells(&mut edges[c..d], width, height, end, &amounts);
+        take_line(&mut nodes[a..b], amounts);
+        move_cells(&mut edges[c..d], width, height, end, amounts);
         Ok(())
     } else {
         Err(Refusal::CostOverflow)

@@ -10,7 +10,7 @@ loop-j-init c = joining_none _ _
 
 pub loop-j-preserved : goal.loop-j-preserved
 loop-j-preserved c =
-    let v = c.args.amounts.now.each in
+    let v = c.args.amounts.each.now in
     let i = c.either.result in
     joining_more c.excess_with-all.result c.loop-j.invariant (omega arith)
     (c.excess_with-all.ensures
@@ -19,4 +19,4 @@ loop-j-preserved c =
 
 pub returns : goal.returns
 returns c =
-    let x = c.args in joining_shifted x.limit.most (λ j. get_or x.amounts.now.each (cond (by_rows x.end) x.k j) (pos 0)) x.line.now c.loop-j.invariant (omega arith)
+    let x = c.args in joining_shifted x.limit.most (λ j. get_or x.amounts.each.now (cond (by_rows x.end) x.k j) (pos 0)) x.line.now c.loop-j.invariant (omega arith)

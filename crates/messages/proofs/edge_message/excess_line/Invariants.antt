@@ -6,4 +6,4 @@ use Rattle.messages.proofs.ExcessLaws.{Joining}
 use Rattle.messages.proofs.edge_message.excess_line.Given as goal
 
 abbrev pub invariant-loop-j : goal.invariant-loop-j
-invariant-loop-j l = Joining (λ i. within l.limit.most (get_or l.line i (pos 0) +ℤ get_or l.amounts.each (cond (by_rows l.end) l.k i) (pos 0))) (length l.line) l.j l.all
+invariant-loop-j l = Joining (λ i. within l.limit.most (get_or l.line i (pos 0) +ℤ get_or l.amounts.each.now (cond (by_rows l.end) l.k i) (pos 0))) (length l.line) l.j l.all

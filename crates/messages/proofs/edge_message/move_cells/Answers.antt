@@ -10,7 +10,7 @@ use Rattle.messages.proofs.edge_message.move_cells.Goals.{In-loop-k, Start}
 
 -- the amount of a cell
 abbrev f : Start → ℕ → ℤ
-f q j = get_or q.args.amounts.now.each (position_in (by_rows q.args.end) q.args.width j) (pos 0)
+f q j = get_or q.args.amounts.each.now (position_in (by_rows q.args.end) q.args.width j) (pos 0)
 
 -- the row of this turn: it ends within the table, and it is the row k as it was
 module _ (c : In-loop-k) where
@@ -29,7 +29,7 @@ move_line-requires c = rw (line (goal.at.move_line-requires c).In-loop-k) (row_l
 pub loop-k-preserved : goal.loop-k-preserved
 loop-k-preserved c =
     let i = (goal.at.loop-k-preserved c).In-loop-k in let s = c.requires.shape in
-    let v = c.args.amounts.now.each in
+    let v = c.args.amounts.each.now in
     let b = by_rows c.args.end in
     let k = c.loop-k.k in
     let a = k * c.args.width in

@@ -5,4 +5,4 @@ use Rattle.messages.proofs.OverLaws.{Raised}
 use Rattle.messages.proofs.edge_message.move_cells.Given as goal
 
 abbrev pub invariant-loop-k : goal.invariant-loop-k
-invariant-loop-k l = Raised (λ j. get_or l.amounts.each (position_in (by_rows l.end) l.width j) (pos 0)) l.initial.cells (l.k * l.width) l.cells
+invariant-loop-k l = Raised (λ j. get_or l.amounts.each.now (position_in (by_rows l.end) l.width j) (pos 0)) l.initial.cells (l.k * l.width) l.cells

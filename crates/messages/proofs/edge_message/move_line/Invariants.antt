@@ -5,4 +5,4 @@ use Rattle.messages.proofs.OverLaws.{Raised}
 use Rattle.messages.proofs.edge_message.move_line.Given as goal
 
 abbrev pub invariant-loop-j : goal.invariant-loop-j
-invariant-loop-j l = Raised (λ i. get_or l.amounts.each (cond (by_rows l.end) l.k i) (pos 0)) l.initial.line l.j l.line
+invariant-loop-j l = Raised (λ i. get_or l.amounts.each.now (cond (by_rows l.end) l.k i) (pos 0)) l.initial.line l.j l.line

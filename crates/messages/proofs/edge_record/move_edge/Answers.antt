@@ -1,14 +1,15 @@
 -- `move_edge` meets its contract: the sheet says where the row, the table and the labels of both ends stand, and the parts move as the rules say.
-use Rattle.std.proofs.Common.{◌≡◌, ℕ, ◌<◌, Bool, cond, eqb, List, sym, ap, ◌∙◌, subst, arith}
+use Rattle.std.proofs.Common.{◌≡◌, ℕ, ◌^◌, ◌<◌, refl, Bool, cond, eqb, List, sym, ap, ◌∙◌, subst, arith}
 use Rattle.integers.proofs.Places.{by_cond}
 use Rattle.instance.specs.declared.sheet.Sheet.{Sheet}
 use Rattle.instance.specs.Instance.{Instance}
 use Rattle.instance.specs.Sheet.{instance_of}
 use Rattle.instance.specs.Described.{labels_of}
+use Rattle.integers.specs.Sum.{Within}
 use Rattle.messages.specs.EdgeMessage.{by_rows}
 use Rattle.messages.specs.EdgeRecord.{EdgeLegal}
 use Rattle.messages.specs.Records.{to_node}
-use Rattle.messages.proofs.EdgeRecordLaws.{legal_node, legal_edge_lem, Found, row_ends, table_ends, row_room, table_room, legal_joined, legal_written, legal_kept}
+use Rattle.messages.proofs.EdgeRecordLaws.{legal_node, legal_edge_lem, Found, row_ends, table_ends, row_room, table_room, legal_joined, legal_ranged, given_within, legal_written, legal_kept}
 use Rattle.messages.proofs.edge_record.move_edge.Goals as goal
 use Rattle.messages.proofs.edge_record.move_edge.Goals.{After-either-w, After-labels_of-other, Start}
 
@@ -23,7 +24,7 @@ module _ (o : After-either-w) where
   abbrev I : Instance
   I = instance_of x.bytes.now
 
-  abbrev g : EdgeLegal x.bytes.now q.args.nodes.now q.args.edges.now q.args.step.node q.args.step.index q.args.step.share
+  abbrev g : EdgeLegal q.args.limit.most x.bytes.now q.args.nodes.now q.args.edges.now q.args.step.node q.args.step.index q.args.step.share
   g = q.requires
 
   -- whether it is the lower one
@@ -50,7 +51,7 @@ module _ (p : After-labels_of-other) where
   abbrev other : List ℕ
   other = p.labels_of-other.result.now
 
-  found : Found (x o) (q o).args.nodes.now (q o).args.edges.now (q o).args.step.node (q o).args.step.index (q o).args.step.share (b o) own other
+  found : Found (x o) (q o).args.limit.most (q o).args.nodes.now (q o).args.edges.now (q o).args.step.node (q o).args.step.index (q o).args.step.share (b o) own other
   found = record {
     legal = (q o).requires;
     named = named o;
@@ -61,15 +62,23 @@ module _ (p : After-labels_of-other) where
 pub invariant_of-joint : goal.invariant_of-joint
 invariant_of-joint c = let p = (goal.at.invariant_of-joint c).After-labels_of-other in record { joined = legal_joined (found p) }
 
-pub returns-then-fits : goal.returns-then-fits
-returns-then-fits c =
-    let p = (goal.at.returns-then-fits c).After-labels_of-other in let y = (q (o p)).args in
-    legal_written (found p) y.limit.most (to_node y.flow) c.amounts-amounts.ensures (sym c.fits.ensures ∙ c.if-fits.true) c.negated-taken.ensures c.move_line.ensures c.width-width.ensures c.move_cells.ensures
+pub weigh-requires : goal.weigh-requires
+weigh-requires c = record { zeros = refl; within = legal_ranged (found (goal.at.weigh-requires c).After-labels_of-other) }
 
-pub returns-else-fits : goal.returns-else-fits
-returns-else-fits c =
-    let p = (goal.at.returns-else-fits c).After-labels_of-other in let y = (q (o p)).args in
-    legal_kept (found p) y.limit.most (to_node y.flow) c.amounts-amounts.ensures (sym c.fits.ensures ∙ c.if-fits.false)
+pub invariant_of-amounts : goal.invariant_of-amounts
+invariant_of-amounts c =
+    let p = (goal.at.invariant_of-amounts c).After-labels_of-other in let y = (q (o p)).args in
+    record { small = subst (Within (2 ^ 41)) (sym c.weigh.ensures.given) (given_within (legal_joined (found p)) (to_node y.flow) y.step.share) }
+
+pub returns-then-weigh : goal.returns-then-weigh
+returns-then-weigh c =
+    let p = (goal.at.returns-then-weigh c).After-labels_of-other in let y = (q (o p)).args in
+    legal_written (found p) (to_node y.flow) c.weigh.ensures.given (sym c.weigh.ensures.fits ∙ c.if-weigh.true) c.take_line.ensures c.width-width.ensures c.move_cells.ensures
+
+pub returns-else-weigh : goal.returns-else-weigh
+returns-else-weigh c =
+    let p = (goal.at.returns-else-weigh c).After-labels_of-other in let y = (q (o p)).args in
+    legal_kept (found p) (to_node y.flow) c.weigh.ensures.given (sym c.weigh.ensures.fits ∙ c.if-weigh.false)
 
 pub offset_bounds-sheet-u : goal.offset_bounds-sheet-u
 offset_bounds-sheet-u c = omega (arith, legal_node (x (o c)) (g (o c)))

@@ -22,15 +22,15 @@ loop-k-preserved c =
     let x = c.args in
     joining_more c.excess_line-all.result c.loop-k.invariant c.loop-k-test.true
     (c.excess_line-all.ensures
-    ∙ ap (λ (m : List ℤ). every (within x.limit.most) (moved_line (by_rows x.self.now.end) c.loop-k.k x.amounts.now.each m)) (row_part (shape (goal.at.loop-k-preserved c).After-height-height) c.loop-k.k refl))
+    ∙ ap (λ (m : List ℤ). every (within x.limit.most) (moved_line (by_rows x.self.now.end) c.loop-k.k x.amounts.each.now m)) (row_part (shape (goal.at.loop-k-preserved c).After-height-height) c.loop-k.k refl))
 
 pub returns : goal.returns
 returns c =
     let x = c.args in
     let t = within x.limit.most in
     let b = by_rows x.self.now.end in
-    joining_all c.loop-k.invariant c.loop-k-test.false ∙ sym (lines_fit (shape (goal.at.returns c).After-height-height) t b x.amounts.now.each)
-    ∙ (λ i. every t (moved_cells b (c.width-width.ensures i) x.amounts.now.each x.self.now.cells.now))
+    joining_all c.loop-k.invariant c.loop-k-test.false ∙ sym (lines_fit (shape (goal.at.returns c).After-height-height) t b x.amounts.each.now)
+    ∙ (λ i. every t (moved_cells b (c.width-width.ensures i) x.amounts.each.now x.self.now.cells.now))
 
 pub loop-k-init : goal.loop-k-init
 loop-k-init c = joining_none _ _

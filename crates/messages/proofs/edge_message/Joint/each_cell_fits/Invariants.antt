@@ -8,4 +8,4 @@ use Rattle.messages.proofs.ExcessLaws.{Joining}
 use Rattle.messages.proofs.edge_message.Joint.each_cell_fits.Given as goal
 
 abbrev pub invariant-loop-k : goal.invariant-loop-k
-invariant-loop-k l = Joining (λ r. every (within l.limit.most) (moved_line (by_rows l.self.end) r l.amounts.each (part l.self.cells.now (r * l.width) l.width))) l.height l.k l.all
+invariant-loop-k l = Joining (λ r. every (within l.limit.most) (moved_line (by_rows l.self.end) r l.amounts.each.now (part l.self.cells.now (r * l.width) l.width))) l.height l.k l.all

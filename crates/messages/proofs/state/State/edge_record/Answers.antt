@@ -6,7 +6,7 @@ use Rattle.messages.specs.EdgeRecord.{edge_move}
 use Rattle.messages.specs.Records.{to_node, edge_message, edge_taken}
 use Rattle.messages.specs.State.{instance_in, limit_in}
 use Rattle.messages.proofs.RecordLaws.{edge_taken_lem, edge_refused, edge_legal}
-use Rattle.messages.proofs.StateLaws.{nodes_fit, edges_fit, edge_left, good_after}
+use Rattle.messages.proofs.StateLaws.{nodes_fit, edges_fit, costs_within, edge_left, good_after}
 use Rattle.messages.proofs.state.State.edge_record.Goals as goal
 use Rattle.messages.proofs.state.State.edge_record.Goals.{After-move_edge, Start, Then-legal_edge}
 
@@ -27,7 +27,7 @@ moved m =
 pub move_edge-requires : goal.move_edge-requires
 move_edge-requires c =
     let a = c.args in
-    edge_legal (nodes_fit a.self.now) (edges_fit a.self.now) a.step.node a.step.index a.step.share (legal (goal.at.move_edge-requires c).Then-legal_edge)
+    edge_legal (nodes_fit a.self.now) (edges_fit a.self.now) (costs_within a.self.now) a.step.node a.step.index a.step.share (legal (goal.at.move_edge-requires c).Then-legal_edge)
 
 pub invariant_of-self : goal.invariant_of-self
 invariant_of-self c = let s = c.args.self.now in record { held = s.held; knows = λ x e. cc e; good = s.good }

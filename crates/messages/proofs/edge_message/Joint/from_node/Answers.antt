@@ -1,0 +1,56 @@
+-- `from_node` meets its contract. The loop's invariant: the first k places hold what those positions give, and the others 0.
+use Rattle.std.proofs.Common.{◌≡◌, ◌^◌, Bool, ◌&&◌, ap, List, get_or, ℤ, pos, ◌-ℤ◌, sym, ◌∙◌, subst, ap₂, w64, to_z, of_z, arith, to_z-of_z, rules}
+use Rattle.integers.specs.Least.{least_of}
+use Rattle.integers.specs.Share.{share}
+use Rattle.integers.specs.Sum.{Within}
+use Rattle.integers.proofs.Bits.{answer}
+use Rattle.rules.specs.Calls.{cost_limit}
+use Rattle.messages.specs.EdgeMessage.{node_amounts}
+use Rattle.integers.specs.Places.{every}
+use Rattle.integers.specs.Checks.{within}
+use Rattle.messages.specs.Joints.{cells_with}
+use Rattle.messages.proofs.FallLaws.{row_falls}
+use Rattle.messages.proofs.RowLaws.{least_of_within}
+use Rattle.messages.proofs.OverLaws.{written_none, written_more, written_all}
+use Rattle.messages.proofs.EdgeLaws.{zeros, node_is, node_within}
+use Rattle.messages.proofs.edge_message.Joint.from_node.Goals as goal
+use Rattle.messages.proofs.edge_message.Joint.from_node.Goals.{After-least_of-low, After-loop-k}
+
+-- the least read back
+low : (c : After-least_of-low) → to_z w64 (of_z w64 c.least_of-low.result) ≡ least_of c.args.self.now.row.now
+low c = answer c.least_of-low.type_inv c.least_of-low.ensures
+
+pub share_of-requires : goal.share_of-requires
+share_of-requires c =
+    let l = c.args.self.now.row.now in
+    let k = c.loop-k.k in
+    rw (low (goal.at.share_of-requires c).After-least_of-low, to_z-of_z {w = w64} {z = get_or l k (pos 0)} (search rules)) (c.args.self.now.joined.row_range k, least_of_within cost_limit l c.args.self.now.joined.row_range)
+
+pub loop-k-preserved : goal.loop-k-preserved
+loop-k-preserved c =
+    written_more c.loop-k.invariant (omega arith)
+    (answer c.share_of.type_inv c.share_of.ensures
+    ∙ ap₂ (λ (x b : ℤ). share (x -ℤ b) c.args.share.parts) (to_z-of_z {w = w64} {z = get_or c.args.self.now.row.now c.loop-k.k (pos 0)} (search rules)) (low (goal.at.loop-k-preserved c).After-least_of-low))
+
+pub loop-k-init : goal.loop-k-init
+loop-k-init c = rw c.requires.zeros (written_none _ _ zeros c.args.self.now.joined.few)
+
+-- what is given
+given : (c : After-loop-k) → c.loop-k.each ≡ node_amounts c.args.self.now.row.now c.args.share.parts
+given c = let x = c.args.self.now in written_all c.loop-k.invariant (omega arith) ∙ node_is x.row.now c.args.share.parts x.joined.few
+
+pub invariant_of-cells_fit : goal.invariant_of-cells_fit
+invariant_of-cells_fit c =
+    let x = c.args.self.now in
+    record { small = subst (λ (l : List ℤ). Within (2 ^ 41) l) (sym (given (goal.at.invariant_of-cells_fit c).After-loop-k)) (node_within x.row.now c.args.share.parts x.joined.row_range) }
+
+pub returns-clause-given : goal.returns-clause-given
+returns-clause-given c = given (goal.at.returns-clause-given c).After-loop-k
+
+-- the node's costs fall
+pub returns-clause-fits : goal.returns-clause-fits
+returns-clause-fits c =
+    let x = c.args.self.now in
+    let m = c.args.limit.most in
+    c.cells_fit.ensures ∙ ap (λ (l : List ℤ). every (within m) (cells_with x l)) (given (goal.at.returns-clause-fits c).After-loop-k)
+    ∙ sym (ap (λ (t : Bool). t && every (within m) (cells_with x (node_amounts x.row.now c.args.share.parts))) (row_falls m x.row.now c.args.share.parts x.joined.few c.requires.within.of_nodes))
