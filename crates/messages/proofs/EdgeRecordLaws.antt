@@ -283,6 +283,7 @@ module _ {x : Sheet} {limit : ℕ} {nodes edges : List ℤ} {u e r : ℕ} {b : B
         cell_range = within_part cost_limit c (c + length own * length other - c) edges f.legal.edge_costs.range;
       }
 
+  -- both within the limit of the call
   pub legal_ranged : CostsWithin limit costs cut
   legal_ranged = record {
     of_nodes = within_part limit a (a + length own - a) nodes f.legal.ranged.of_nodes;

@@ -90,7 +90,7 @@ halving_more {half} {l} {i} {w} v r h e =
     }
 
 -- two halves add up to no more than the limit
-pub halves_fit : {half limit : ℕ} → 2 * half ≤ limit → (f : ℕ → ℤ) (l : List ℤ) → Within half l → ((k : ℕ) → nat_abs (f k) ≤ half) → every (within limit) (shifted f l) ≡ true
+pub halves_fit : {half limit : ℕ} → 2 * half ≤ limit → (f : ℕ → ℤ) (l : List ℤ) → Within half l → ((k : ℕ) → k < length l → nat_abs (f k) ≤ half) → every (within limit) (shifted f l) ≡ true
 halves_fit {half} {limit} m f l h g =
     every-tabulate (within limit) (length l) (λ i. get_or l i (pos 0) +ℤ f i)
-    (λ i _. le_within limit (get_or l i (pos 0) +ℤ f i) (omega (arith, abs_add (get_or l i (pos 0)) (f i), h i, g i)))
+    (λ i k. le_within limit (get_or l i (pos 0) +ℤ f i) (omega (arith, abs_add (get_or l i (pos 0)) (f i), h i, g i k)))

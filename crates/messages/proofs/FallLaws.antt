@@ -1,6 +1,6 @@
 -- Costs that fall, and not below the least of them, stay within the limit without a test: those of a node that gives to an edge, and the cells of an edge that gives to a node where no unusable one is below the least usable one of its position.
 -- Assumes nothing.
-use Rattle.std.proofs.Common.{◌≡◌, ℕ, ◌+◌, ◌*◌, ◌/◌, ◌%◌, ◌<◌, ◌≤◌, Bool, true, false, List, [], ◌∷◌, length, get_or, ℤ, pos, ◌+ℤ◌, ◌-ℤ◌, neg_ℤ, nat_abs, ◌≤ℤ◌, sym, ap, ◌∙◌, subst, mod-lt, div-lt_iff_lt-mul, arith, take, get_or-take}
+use Rattle.std.proofs.Common.{◌≡◌, ℕ, ◌+◌, ◌*◌, ◌/◌, ◌%◌, ◌<◌, ◌≤◌, Bool, true, false, List, [], ◌∷◌, length, get_or, ℤ, pos, ◌+ℤ◌, ◌-ℤ◌, neg_ℤ, nat_abs, ◌≤ℤ◌, sym, ap, ◌∙◌, subst, mod-lt, div-lt_iff_lt-mul, arith}
 use native.Mathlib.Nat.{div-add-mod'}
 use Rattle.integers.specs.Least.{least_from, least_of}
 use Rattle.integers.specs.Share.{share, excess}
@@ -8,7 +8,6 @@ use Rattle.integers.specs.Sum.{Within}
 use Rattle.integers.specs.Places.{every}
 use Rattle.integers.specs.Checks.{within}
 use Rattle.integers.proofs.Parts.{linear, add, neg, sub, abs, apart}
-use Rattle.integers.proofs.Sum.{abs_add}
 use Rattle.integers.proofs.Least.{least_le, least_of_le}
 use Rattle.integers.proofs.Share.{share_toward, nonneg}
 use Rattle.integers.proofs.Checks.{le_within}
@@ -102,15 +101,3 @@ module _ {b : Bool} {own other : List ℕ} {l : List ℤ} (e : Ends b own other 
       let (lo, up) = excess_between (cells_at b own other l k) low (cost j) r (within_map cost_limit cost (places_at b own other (length l) k) v) (v j) (order e v k) (subst (λ z. z ≤ℤ cost j) (a k n) (in_line b e j g)) in
       ap (λ (q : ℤ). within limit (cost j +ℤ q)) (get_d_tabulate 16 (amount r) k (pos 0) (omega (arith, own_few b e)))
       ∙ between limit (cost j) low p (h j) (least_of_within limit (usable_cells b own other l) (within_map limit cost (usable_of b own other (length l)) h)) lo up)
-
--- ---- the quick test
-
--- cells and the amounts of the end's positions within half the limit: no sum of them passes it
-pub cells_half : {b : Bool} {own other : List ℕ} {l : List ℤ} → Ends b own other l → {half limit : ℕ} → 2 * half ≤ limit → (v : List ℤ) → Within half (take (length own) v) → Within half l
-    → every (within limit) (moved_cells b (width_of b own other) v l) ≡ true
-cells_half {b} {own} {other} {l} e {half} {limit} m v g h =
-    let w = width_of b own other in
-    every-tabulate (within limit) (length l) (λ j. get_or l j (pos 0) +ℤ get_or v (position_in b w j) (pos 0))
-    (λ j n. let k = position_in b w j in
-    let p : nat_abs (get_or v k (pos 0)) ≤ half = subst (λ z. nat_abs z ≤ half) (get_or-take (length own) v k (pos 0) (position_below b e j n)) (g k) in
-    le_within limit (get_or l j (pos 0) +ℤ get_or v k (pos 0)) (omega (arith, abs_add (get_or l j (pos 0)) (get_or v k (pos 0)), h j)))

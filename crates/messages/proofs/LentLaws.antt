@@ -77,6 +77,7 @@ module _ (s : List ℕ) (limit : ℕ) (b : Buffers) where
       let (x, y) = and_true n l e in
       (all_within limit b.nodes x, all_within limit b.labels y, all_within limit b.edges z)
 
+  -- what a node and an edge exchange
   pub within_of : in_range limit b ≡ true → CostsWithin limit b.nodes b.edges
   within_of r = let (x, y, z) = ranges r in record { of_nodes = x; of_edges = z }
 

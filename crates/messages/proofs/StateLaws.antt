@@ -42,6 +42,7 @@ module _ (s : State) where
   pub edges_fit : EdgeFits bytes s.edges.now
   edges_fit = all_fit.2
 
+  -- each within the limit of the call
   pub costs_within : CostsWithin (limit_in s) s.nodes.now s.edges.now
   costs_within = within_of bytes (limit_in s) (buffers_in s) good.ranged
 

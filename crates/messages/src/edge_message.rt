@@ -87,8 +87,8 @@ fn excess_line(line: &[i64], k: usize, end: End, amounts: Amounts, limit: Limit)
 }
 
 // Adds to each cell of the k-th row of a table its amount.
-// Kept: the end and the amounts one by one, here and in the tests: the amounts are a table's for either end. The limit is the call's.
-// Kept: it and `move_cells` are over slices, and no methods of a struct that holds them as `&mut`. Tried; of a buffer of which a part was lent to such a struct the proof then knows no more than its length.
+// Kept: the end and the amounts one by one, here and in the tests: a node's row gives the same amounts, and has no end. The limit is the call's.
+// Kept: it, `take_line` and `move_cells` are over slices, and no methods of a struct that holds them as `&mut`. Tried; of a buffer of which a part was lent to such a struct the proof then knows no more than its length.
 fn move_line(line: &mut [i64], k: usize, end: End, amounts: Amounts)
     requires { Line k line.old }
     ensures { line.new ≡ moved_line (by_rows end) k amounts.entry.each.now line.old }
@@ -106,7 +106,8 @@ pub(crate) fn take_line(line: &mut [i64], amounts: Amounts)
     ensures { line.new ≡ moved_row amounts.entry.each.now line.old }
 {
     for (k, cost) in line.iter_mut().enumerate() {
-        *cost = *cost - amounts.each[k];
+        let amount = amounts.each[k];
+        *cost = *cost - amount;
     }
 }
 
@@ -219,6 +220,7 @@ impl Joint<'_> {
     fn cells_fit(&self, amounts: Amounts, limit: Limit) -> bool
         ensures { result ≡ every (within limit.most) (cells_with self.now amounts.entry.each.now) }
     {
+        // Kept: the reference by itself, as the proof does not follow a part that is lent of a field.
         let each = amounts.each;
         if all_half(&each[..self.own.len()], limit) && all_half(self.cells, limit) {
             return true;
@@ -267,6 +269,7 @@ impl Joint<'_> {
     }
 
     // What each position of the node gives, or, turned round, what each position of the edge's end does; whether the node's costs and the edge's cells stay within the limit.
+    // Kept: the array is the caller's, here and of either way, and filled in place: made here it would be copied out. That the costs are within the limit is asked for: the limit is the call's, and a `Joint` has none.
     pub(crate) fn weigh(&self, flow: Flow, share: Share, limit: Limit, each: &mut [i64; 16]) -> bool
         requires zeros { each.old ≡ replicate 16 (pos 0) }
         requires within { CostsWithin limit.most self.now.row.now self.now.cells.now }
