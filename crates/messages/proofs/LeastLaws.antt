@@ -1,8 +1,9 @@
 -- The least of a row as four running minima side by side find it.
 -- Assumes nothing.
-use Rattle.std.proofs.Common.{◌≡◌, ℕ, zero, suc, ◌<◌, List, [], ◌∷◌, length, get_or, drop, ℤ, pos, sym, refl, ap, ◌∙◌, ap₂, not-suc-le-zero, arith, get_or-drop}
+use Rattle.std.proofs.Common.{◌≡◌, ℕ, zero, suc, ◌<◌, List, [], ◌∷◌, length, get_or, drop, ℤ, pos, ◌<ℤ◌, sym, refl, ap, ◌∙◌, ap₂, not-suc-le-zero, arith, get_or-drop}
 use Rattle.integers.specs.Least.{min_ℤ, least_from, least_of, without}
-use Rattle.integers.proofs.Order.{le_refl, min_eq_left, min_comm}
+use Rattle.integers.proofs.Order.{le_refl, min_ind, min_eq_left, min_comm}
+use Rattle.integers.proofs.Parts.{linear}
 use Rattle.integers.proofs.Least.{min_left_comm, least_step, least_min}
 
 min_self : (a : ℤ) → min_ℤ a a ≡ a
@@ -55,3 +56,18 @@ pub first_but_later : (l : List ℤ) (k : ℕ) (d : ℤ) → (k ≡ 0 → ⊥) �
 first_but_later l zero d h = absurd (h refl)
 first_but_later [] (suc k) d h = refl
 first_but_later (x ∷ l) (suc k) d h = refl
+
+-- one element first, then the others
+pub least_aside : (b : ℤ) (l : List ℤ) (i : ℕ) (d : ℤ) → i < length l → min_ℤ (get_or l i d) (least_from b (without l i)) ≡ least_from b l
+unfolding least_from
+least_aside b [] i d h = absurd (not-suc-le-zero h)
+least_aside b (x ∷ l) zero d h = refl
+least_aside b (x ∷ l) (suc i) d h = min_left_comm (get_or l i d) x (least_from b (without l i)) ∙ ap (min_ℤ x) (least_aside b l i d (omega arith))
+
+-- an element above the least may be left out
+pub least_above : (b : ℤ) (l : List ℤ) (i : ℕ) (d : ℤ) → i < length l → least_from b l <ℤ get_or l i d → least_from b l ≡ least_from b (without l i)
+least_above b l i d h g =
+    let x = get_or l i d in
+    let m = least_from b (without l i) in
+    let e = least_aside b l i d h in
+    sym e ∙ min_ind x m (λ z. z <ℤ x → z ≡ m) (λ _ k. absurd (omega linear)) (λ _ _. refl) (rw e g)

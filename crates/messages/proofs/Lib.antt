@@ -16,6 +16,8 @@ pub mod OverLaws
 pub mod EdgeLaws
 pub mod UsableLaws
 pub mod FallLaws
+pub mod StrideLaws
+pub mod PassLaws
 pub mod UsableLeast
 pub mod LowLaws
 pub mod LowTurns

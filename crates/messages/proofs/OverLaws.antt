@@ -1,6 +1,7 @@
 -- A list whose first n elements are f of their places, and the others as they were, as a loop writes it: a store more, a part more, all of them; and a test row by row.
 -- Assumes nothing.
 use Rattle.std.proofs.Common.{◌≡◌, ℕ, zero, suc, ◌+◌, ◌-◌, ◌*◌, ◌<◌, ◌≤◌, Bool, ◌&&◌, ltb, List, [], ◌∷◌, ◌++◌, map, length, get_or, take, drop, set, replicate, ℤ, pos, ◌+ℤ◌, sym, refl, ap, ◌∙◌, ap₂, append_assoc, append-nil, add-one, arith, length-append, length-drop, get_or-drop, drop-cons, drop-drop, take_at, get_or-append-add, ext_get_or, drop_at, ltb-false, ltb-true}
+use Rattle.std.proofs.lemmas.List.{set-get_or}
 use mathlib.Core.List.{map-append}
 use borrow.Rule.Slice.PartMut.{put_mid}
 use lib.ListN.{length-map, length-replicate, get_or-replicate, get_or-append}
@@ -117,6 +118,18 @@ module _ {f : ℕ → ℤ} {n : ℕ} {m : List ℤ} {k : ℕ} {l : List ℤ} (w 
 
   pub written_more : k < n → {v : ℤ} → v ≡ f k → Overwritten f n m (k + 1) (set l k v)
   written_more h e = record { inside = omega arith; room = w.room; told = ap₂ (λ (t : List ℤ) (z : ℤ). set t k z) w.told e ∙ over_more f k m (omega arith) }
+
+  -- by a place and a next place that are written otherwise
+  pub written_on : k < n → {i k' : ℕ} → i ≡ k → k' ≡ k + 1 → {v : ℤ} → v ≡ f i → Overwritten f n m k' (set l i v)
+  written_on h {i} {k'} e q {v} p =
+      let r = written_more h (p ∙ ap f e) in
+      record { inside = omega arith; room = r.room; told = ap (λ (i : ℕ). set l i v) e ∙ r.told ∙ ap (λ (i : ℕ). over f i m) (sym q) }
+
+  -- a place that holds already what would be written
+  pub written_kept : k < n → get_or m k (pos 0) ≡ f k → Overwritten f n m (k + 1) l
+  written_kept h e =
+      let r = written_more h (written_next ∙ e) in
+      record { inside = r.inside; room = r.room; told = sym (set-get_or l k (pos 0)) ∙ r.told }
 
   pub written_part : (a : ℕ) → k + a ≤ n → (p : List ℤ) → length p ≡ a → ((j : ℕ) → j < a → get_or p j (pos 0) ≡ f (k + j)) → Overwritten f n m (k + a) (put_mid k a l p)
   written_part a h p e q = record { inside = h; room = w.room; told = ap (λ (t : List ℤ). put_mid k a t p) w.told ∙ over_part f k m a p e q }

@@ -98,6 +98,13 @@ unbounded = pos (2 ^ 63 - 1)
 abbrev pub line_at : Bool → ℕ → ℕ → List ℤ → ℕ → List ℤ
 line_at by_row width height cells k = cond by_row (part cells (k * width) width) (tabulate height (λ r. get_or cells (width * r + k) (pos 0)))
 
+-- how far apart the cells of neighbouring positions stand: of the end that a record names, and of the other
+abbrev pub own_stride : Bool → List ℕ → ℕ
+own_stride by_row other = cond by_row (length other) 1
+
+abbrev pub other_stride : Bool → List ℕ → ℕ
+other_stride by_row own = cond by_row 1 (length own)
+
 -- the costs of a row but for the one at a place, if there is one
 abbrev pub left_of : List ℤ → Option ℕ → List ℤ
 left_of l None = l

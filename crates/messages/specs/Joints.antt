@@ -1,9 +1,9 @@
 -- A node's row and an edge's table as the code has them in one value: what its parts are, and what a message makes of them.
-use Rattle.std.specs.Prelude.{◌≡◌, ℕ, ◌<◌, length, Bool, false, List, ℤ}
+use Rattle.std.specs.Prelude.{◌≡◌, ℕ, ◌<◌, Bool, List, length, ℤ}
 use Rattle.integers.specs.Least.{least_from}
 use Rattle.messages.specs.declared.edge_message.Joint.{Joint}
 use Rattle.messages.specs.declared.records.Flow.{Flow}
-use Rattle.messages.specs.EdgeMessage.{by_rows, unbounded, width_of, height_of, line_at, least_at, moved_cells}
+use Rattle.messages.specs.EdgeMessage.{by_rows, width_of, height_of, line_at, unbounded, own_stride, other_stride, least_at, moved_cells}
 use Rattle.messages.specs.EdgeRecord.{amounts_of, fit_parts}
 use Rattle.messages.specs.Records.{to_node}
 
@@ -15,13 +15,13 @@ module _ (j : Joint) where
   abbrev pub rows : ℕ
   rows = height_of (by_rows j.end) j.own.now j.other.now
 
-  -- one of its columns
-  abbrev pub column_in : ℕ → List ℤ
-  column_in = line_at false columns rows j.cells.now
-
   -- the cells with the end at a position: a row, or a column
   abbrev pub line_in : ℕ → List ℤ
   line_in = line_at (by_rows j.end) columns rows j.cells.now
+
+  -- the least of them
+  abbrev pub low_in : ℕ → ℤ
+  low_in k = least_from unbounded (line_in k)
 
   -- the least usable one of them
   abbrev pub least_in : ℕ → ℤ
@@ -30,6 +30,13 @@ module _ (j : Joint) where
   -- at each position no unusable cell is lower than the least usable one
   abbrev pub Above : Type 0
   Above = (k : ℕ) → k < length j.own.now → least_from unbounded (line_in k) ≡ least_in k
+
+  -- how far apart the cells of neighbouring positions stand: of this end, and of the other
+  abbrev pub own_step : ℕ
+  own_step = own_stride (by_rows j.end) j.other.now
+
+  abbrev pub other_step : ℕ
+  other_step = other_stride (by_rows j.end) j.own.now
 
   -- what each position gives
   abbrev pub given_in : Flow → ℕ → List ℤ

@@ -1,22 +1,18 @@
 // Messages between one node's costs and one edge's table: what is given, whether both stay within the limit, and the moves. Document 01, kinds 1 and 2.
-ghost use Rattle.std.specs.Prelude.{◌≡◌, ℕ, ◌^◌, ◌<◌, ◌≤◌, IfSome, length, replicate, pos, ◌+ℤ◌, ◌<ℤ◌, nat_lt, slice_index_or, neg_ℤ, false, unsigned_abs};
-ghost use Rattle.integers.specs.Least.{least_from};
+ghost use Rattle.std.specs.Prelude.{◌≡◌, ℕ, ◌^◌, ◌<◌, ◌≤◌, length, replicate, pos, ◌+ℤ◌, ◌<ℤ◌, nat_lt, slice_index_or, neg_ℤ, unsigned_abs};
 ghost use Rattle.integers.specs.Sum.{Within};
 ghost use Rattle.integers.specs.Places.{every, tabulate};
 ghost use Rattle.integers.specs.Checks.{within};
 ghost use Rattle.rules.specs.Calls.{cost_limit};
-ghost use Rattle.messages.specs.EdgeMessage.{by_rows, moved_row, moved_cells, moved_line, Shape, Line, over, left_of, unbounded, turned_least};
+ghost use Rattle.messages.specs.EdgeMessage.{by_rows, moved_row, moved_cells, moved_line, Shape, Line, unbounded, turned_least};
 ghost use Rattle.messages.specs.declared.records.Flow.TheVariants.{FromNode, ToNode};
 ghost use Rattle.messages.specs.EdgeRecord.{Joined, CostsWithin};
 
 use crate::amounts::Amounts;
-use crate::clash::{clash, mask_of};
 use crate::end::End;
 use crate::limit::Limit;
 use crate::records::Flow;
-use crate::rows::{
-    OUT, UNBOUNDED, all_half, excess, least, least_but, least_of, less_at, share_of,
-};
+use crate::rows::{OUT, UNBOUNDED, all_half, excess, least_of, share_of};
 use crate::share::Share;
 
 // What the least of a position gives down to the least of all, turned round, and 0 if it has no usable cell.
@@ -42,17 +38,6 @@ fn turn_all(least: &mut [i64], low: i64, share: Share)
 {
     for cost in least.iter_mut() {
         *cost = turned_least(*cost, low, share);
-    }
-}
-
-// The least of a row but for the cell at `skip`, if there is one.
-fn row_low(row: &[i64], skip: Option<usize>) -> i64
-    requires { IfSome skip (λ s. s < length row.now) }
-    ensures { result ≡ least_from unbounded (left_of row.now skip) }
-{
-    match skip {
-        Some(skip) => least_but(row, skip, UNBOUNDED),
-        None => least(row, UNBOUNDED),
     }
 }
 
@@ -138,7 +123,7 @@ pub(crate) struct Joint<'a> {
 }
 
 impl Joint<'_> {
-    ghost use Rattle.messages.specs.Joints.{columns, rows, column_in, line_in, least_in, given_in, cells_with, fit_in, Above};
+    ghost use Rattle.messages.specs.Joints.{columns, rows, given_in, cells_with, fit_in};
 
     // How many columns the table has: as many as the higher end has positions.
     pub(crate) fn width(&self) -> usize
@@ -152,52 +137,6 @@ impl Joint<'_> {
         ensures { result ≡ rows self.now }
     {
         self.end.either(self.own.len(), self.other.len())
-    }
-
-    // The least of the column `k` of the table but for its row `skip`, if there is one.
-    fn column_low(&self, k: usize, skip: Option<usize>) -> i64
-        requires { k < columns self.now }
-        ensures { result ≡ least_from unbounded (left_of (column_in self.now k) skip) }
-    {
-        let width = self.width();
-        let height = self.height();
-        let mut best = UNBOUNDED;
-        for r in 0..height {
-            if Some(r) != skip {
-                best = less_at(self.cells, r * width + k, best);
-            }
-        }
-        best
-    }
-
-    // The least of the cells with the end at its position `k`, but for the one at `skip`: of the lower end a row, of the higher a column.
-    fn low_at(&self, k: usize, skip: Option<usize>) -> i64
-        requires k_bound { k < length self.now.own.now }
-        requires skip_bound { IfSome skip (λ s. s < length self.now.other.now) }
-        ensures { result ≡ least_from unbounded (left_of (line_in self.now k) skip) }
-    {
-        match self.end {
-            End::Lower => {
-                let width = self.width();
-                let a = k * width;
-                let b = a + width;
-                row_low(&self.cells[a..b], skip)
-            }
-            End::Higher => self.column_low(k, skip),
-        }
-    }
-
-    // The least usable cell of each position.
-    fn least_by(&self) -> [i64; 16]
-        ensures { result ≡ over (least_in self.now) (length self.now.own.now) (replicate 16 (pos 0)) }
-    {
-        let mask = mask_of(self.other);
-        let mut least = [0; 16];
-        for (k, label) in self.own.iter().enumerate() {
-            let skip = clash(self.other, mask, *label);
-            least[k] = self.low_at(k, skip);
-        }
-        least
     }
 
     // Whether each cell that receives the amount at its position stays within the limit.
@@ -280,15 +219,5 @@ impl Joint<'_> {
             Flow::FromNode => self.from_node(share, limit, each),
             Flow::ToNode => self.to_node(share, limit, each),
         }
-    }
-
-    // The least usable cell of each position. Where the answer is false, it is the least of all cells there: no unusable one is lower.
-    pub(crate) fn leasts(&self, least: &mut [i64; 16]) -> bool
-        requires zeros { least.old ≡ replicate 16 (pos 0) }
-        ensures lows { least.new ≡ over (least_in self.now) (length self.now.own.now) (replicate 16 (pos 0)) }
-        ensures above { result ≡ false → Above self.now }
-    {
-        *least = self.least_by();
-        true
     }
 }

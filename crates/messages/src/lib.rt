@@ -14,6 +14,7 @@ mod incumbent;
 mod indexes;
 mod label_message;
 mod labelled;
+mod leasts;
 mod lent;
 mod limit;
 mod list;

@@ -1,0 +1,39 @@
+-- `pass_over` meets its contract. The loop's invariant: the first k places hold the least usable cell there, and if none was passed over, that is the least of all.
+use Rattle.std.proofs.Common.{◌+◌, ◌*◌, Some, get_or, pos, ap, ◌∙◌, arith, w64, to_z-of_z, rules}
+use Rattle.integers.specs.Least.{least_from}
+use Rattle.integers.proofs.Bits.{answer}
+use Rattle.integers.proofs.Parts.{linear, parts}
+use Rattle.messages.specs.Clash.{Skips}
+use Rattle.messages.specs.EdgeMessage.{by_rows, unbounded}
+use Rattle.messages.proofs.UsableLaws.{line_left}
+use Rattle.messages.proofs.PassLaws.{low_clear, low_above, gone_none, gone_next, gone_over, gone_by, gone_all}
+use Rattle.messages.proofs.edge_message.Joint.pass_over.Goals as goal
+use Rattle.messages.proofs.edge_message.Joint.pass_over.Goals.{in-Some+then-self-k, in-Some+else-self-k, in_default}
+
+pub loop-k-init : goal.loop-k-init
+loop-k-init c = gone_none c.args.self.now c.requires
+
+pub loop-k-preserved : goal.loop-k-preserved
+loop-k-preserved c =
+    let j = c.args.self.now in
+    let s = c.strides-own.ensures in
+    let k = c.loop-k.k in
+    let h = c.loop-k-test.true in
+    let g = c.loop-k.invariant in
+    let label = get_or j.own.now k 0 in
+    elim c.match-clash.branch [
+      | in-Some+then-self-k w ↦ let x : Skips j.other.now label (Some w.in-Some.skip) = w.in-Some.ensures in
+          rw (w.least-is, w.passed-is) (gone_over g h (answer w.low_at.type_inv w.low_at.ensures ∙ ap (least_from unbounded) (line_left (by_rows j.end) j.joined.ends k h x)))
+      | in-Some+else-self-k w ↦ let x : Skips j.other.now label (Some w.in-Some.skip) = w.in-Some.ensures in
+          let cell = get_or j.cells.now (k * c.strides-own.result.0 + w.in-Some.skip * c.strides-own.result.1) (pos 0) in
+          let a = to_z-of_z {w = w64} {z = cell} (search rules) in
+          let b = to_z-of_z {w = w64} {z = get_or c.loop-k.least k (pos 0)} (search rules) ∙ gone_next g h in
+          rw (w.least-is, w.passed-is) (gone_by g h (low_above j k h s w.in-Some.skip x (omega (linear, parts a, parts b, w.if-self-k.false))))
+      | in_default w ↦ rw (w.least-is, w.passed-is) (gone_by g h (low_clear j k h w.in_default.ensures))
+    ]
+
+pub returns-clause-lows : goal.returns-clause-lows
+returns-clause-lows c = gone_all c.loop-k.invariant c.loop-k-test.false
+
+pub returns-clause-above : goal.returns-clause-above
+returns-clause-above c = λ e k h. c.loop-k.invariant.above e k (omega (arith, c.loop-k-test.false))

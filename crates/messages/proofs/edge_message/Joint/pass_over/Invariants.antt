@@ -1,0 +1,6 @@
+-- `pass_over` meets its contract. The loop's invariant: the first k places hold the least usable cell there, and if none was passed over, that is the least of all.
+use Rattle.messages.proofs.PassLaws.{Gone}
+use Rattle.messages.proofs.edge_message.Joint.pass_over.Given as goal
+
+abbrev pub invariant-loop-k : goal.invariant-loop-k
+invariant-loop-k l = Gone l.self l.k l.least l.passed
