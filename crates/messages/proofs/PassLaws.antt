@@ -27,11 +27,13 @@ module _ (j : Joint) (k : ℕ) (g : k < length j.own.now) where
         ap (λ (m : List ℤ). get_or m p (pos 0)) (line_spots (by_rows j.end) j.joined.ends k g) ∙ get_d_tabulate (length j.other.now) f p (pos 0) h
         ∙ ap₂ (λ (a b : ℕ). get_or j.cells.now (k * a + p * b) (pos 0)) (sym s.0) (sym s.1)
 
+    -- the position has as many cells as the other end has labels
     long : length (line_in j k) ≡ length j.other.now
     long =
         ap length (line_spots (by_rows j.end) j.joined.ends k g)
         ∙ length-tabulate (length j.other.now) (λ i. get_or j.cells.now (k * own_step j + i * other_step j) (pos 0))
 
+    -- above all of them it is not the least
     pub low_above : (p : ℕ) → Skips j.other.now (get_or j.own.now k 0) (Some p) → low_in j k <ℤ get_or j.cells.now (k * own + p * other) (pos 0) → low_in j k ≡ least_in j k
     low_above p x h =
         let i : p < length j.other.now = x.inside in

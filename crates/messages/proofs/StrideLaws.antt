@@ -1,4 +1,4 @@
--- The cells at a position of an edge's end, which stand one stride apart, and of neighbouring positions another; and their least, cell by cell.
+-- The cells at a position of an edge's end, row or column, by two strides: of neighbouring positions, and of neighbouring cells of one; and their least, cell by cell.
 -- Assumes nothing.
 use Rattle.std.proofs.Common.{◌≡◌, ℕ, ◌+◌, ◌*◌, ◌<◌, Bool, true, false, not, Option, List, length, get_or, ℤ, pos, sym, refl, ap, ◌∙◌, ap₂, arith, mul_comm, ext_get_or}
 use Rattle.integers.specs.Least.{min_ℤ, least_from}

@@ -15,6 +15,7 @@ use Rattle.messages.proofs.edge_message.Joint.four_lows.Goals as goal
 taken : (x b : ℤ) {z : ℤ} → SFits w64 x → z ≡ int_min b (to_z w64 (of_z w64 x)) → z ≡ min_ℤ x b
 taken x b f q = q ∙ ap (int_min b) (to_z-of_z f) ∙ less_back b x
 
+-- four one after the other
 four : (f : ℕ → ℤ) {a b c d : ℤ} → a ≡ f 0 → b ≡ f 1 → c ≡ f 2 → d ≡ f 3 → a ∷ b ∷ c ∷ d ∷ [] ≡ tabulate 4 f
 unfolding tabulate range
 four f p q r s = λ i. p i ∷ q i ∷ r i ∷ s i ∷ []
