@@ -1,4 +1,4 @@
--- The least of a row as four running minima side by side find it.
+-- The least of a row as four running minima side by side find it, and without an element that is above it.
 -- Assumes nothing.
 use Rattle.std.proofs.Common.{◌≡◌, ℕ, zero, suc, ◌<◌, List, [], ◌∷◌, length, get_or, drop, ℤ, pos, ◌<ℤ◌, sym, refl, ap, ◌∙◌, ap₂, not-suc-le-zero, arith, get_or-drop}
 use Rattle.integers.specs.Least.{min_ℤ, least_from, least_of, without}

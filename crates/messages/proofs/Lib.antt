@@ -15,9 +15,9 @@ pub mod IncumbentLaws
 pub mod OverLaws
 pub mod EdgeLaws
 pub mod UsableLaws
-pub mod FallLaws
 pub mod StrideLaws
 pub mod PassLaws
+pub mod FallLaws
 pub mod UsableLeast
 pub mod LowLaws
 pub mod LowTurns

@@ -101,9 +101,13 @@ pub record Overwritten (f : ℕ → ℤ) (n : ℕ) (m : List ℤ) (k : ℕ) (l :
   pub room : n ≤ length m
   pub told : l ≡ over f k m
 
-pub written_none : (f : ℕ → ℤ) (n : ℕ) (m : List ℤ) → n ≤ length m → Overwritten f n m 0 m
+-- before the first of them, of an array that is known to be m
+pub written_start : (f : ℕ → ℤ) (n : ℕ) {m l : List ℤ} → l ≡ m → n ≤ length m → Overwritten f n m 0 l
 unfolding over tabulate range
-written_none f n m h = record { inside = omega arith; room = h; told = refl }
+written_start f n e h = record { inside = omega arith; room = h; told = e }
+
+pub written_none : (f : ℕ → ℤ) (n : ℕ) (m : List ℤ) → n ≤ length m → Overwritten f n m 0 m
+written_none f n m h = written_start f n refl h
 
 module _ {f : ℕ → ℤ} {n : ℕ} {m : List ℤ} {k : ℕ} {l : List ℤ} (w : Overwritten f n m k l) where
   pub written_length : length l ≡ length m

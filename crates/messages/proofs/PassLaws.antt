@@ -1,17 +1,17 @@
 -- The least usable cell of each position from the least of all cells there: where an unusable cell is above it, it stays.
 -- Assumes nothing.
-use Rattle.std.proofs.Common.{◌≡◌, ℕ, ◌+◌, ◌*◌, ◌<◌, ◌≤◌, Bool, true, false, ltb, None, Some, List, length, get_or, set, ℤ, pos, ◌<ℤ◌, sym, refl, ap, ◌∙◌, subst, ap₂, arith, ltb-true, ltb-false}
+use Rattle.std.proofs.Common.{◌≡◌, ℕ, ◌+◌, ◌*◌, ◌<◌, ◌≤◌, Bool, true, false, ltb, None, Some, List, length, get_or, set, ℤ, pos, ◌<ℤ◌, sym, refl, ap, ◌∙◌, ap₂, arith, ltb-true, ltb-false}
 use Rattle.integers.specs.Least.{least_from}
-use Rattle.integers.proofs.Places.{by-test, length-tabulate, get_d_tabulate}
+use Rattle.integers.proofs.Places.{by-test}
 use Rattle.messages.specs.declared.edge_message.Joint.{Joint}
 use Rattle.messages.specs.Clash.{Skips}
 use Rattle.messages.specs.EdgeMessage.{by_rows, unbounded, over}
 use Rattle.messages.specs.Joints.{own_step, other_step, line_in, low_in, least_in}
 use Rattle.messages.proofs.LeastLaws.{least_above}
-use Rattle.messages.proofs.OverLaws.{Overwritten, written_none, written_more, written_kept, written_next, written_all, length_over, over_at, over_again}
+use Rattle.messages.proofs.OverLaws.{Overwritten, written_start, written_more, written_kept, written_next, written_all, length_over, over_at, over_again}
 use Rattle.messages.proofs.EdgeLaws.{zeros}
-use Rattle.messages.proofs.UsableLaws.{own_few, line_left}
-use Rattle.messages.proofs.StrideLaws.{line_spots}
+use Rattle.messages.proofs.UsableLaws.{own_few, line_left, line_many}
+use Rattle.messages.proofs.StrideLaws.{line_cell}
 
 module _ (j : Joint) (k : ℕ) (g : k < length j.own.now) where
   -- with no unusable cell the least of all is that of the usable ones
@@ -22,22 +22,15 @@ module _ (j : Joint) (k : ℕ) (g : k < length j.own.now) where
   module _ {own other : ℕ} (s : (own ≡ own_step j) × (other ≡ other_step j)) where
     -- the cell that is read is the position's
     cell_at : (p : ℕ) → p < length j.other.now → get_or (line_in j k) p (pos 0) ≡ get_or j.cells.now (k * own + p * other) (pos 0)
-    cell_at p h =
-        let f : ℕ → ℤ = (λ i. get_or j.cells.now (k * own_step j + i * other_step j) (pos 0)) in
-        ap (λ (m : List ℤ). get_or m p (pos 0)) (line_spots (by_rows j.end) j.joined.ends k g) ∙ get_d_tabulate (length j.other.now) f p (pos 0) h
-        ∙ ap₂ (λ (a b : ℕ). get_or j.cells.now (k * a + p * b) (pos 0)) (sym s.0) (sym s.1)
-
-    -- the position has as many cells as the other end has labels
-    long : length (line_in j k) ≡ length j.other.now
-    long =
-        ap length (line_spots (by_rows j.end) j.joined.ends k g)
-        ∙ length-tabulate (length j.other.now) (λ i. get_or j.cells.now (k * own_step j + i * other_step j) (pos 0))
+    cell_at p h = line_cell (by_rows j.end) j.joined.ends k p h ∙ ap₂ (λ (a b : ℕ). get_or j.cells.now (k * a + p * b) (pos 0)) (sym s.0) (sym s.1)
 
     -- above all of them it is not the least
-    pub low_above : (p : ℕ) → Skips j.other.now (get_or j.own.now k 0) (Some p) → low_in j k <ℤ get_or j.cells.now (k * own + p * other) (pos 0) → low_in j k ≡ least_in j k
+    pub low_above : (p : ℕ) → Skips j.other.now (get_or j.own.now k 0) (Some p) → low_in j k <ℤ get_or j.cells.now (k * own + p * other) (pos 0)
+        → low_in j k ≡ least_in j k
     low_above p x h =
         let i : p < length j.other.now = x.inside in
-        least_above unbounded (line_in j k) p (pos 0) (omega (arith, long)) (rw (cell_at p i) h)
+        let n = line_many (by_rows j.end) j.joined.ends k g in
+        least_above unbounded (line_in j k) p (pos 0) (omega arith) (rw (cell_at p i) h)
         ∙ ap (least_from unbounded) (line_left (by_rows j.end) j.joined.ends k g x)
 
 -- ---- the first k positions gone through: each has its least usable cell, and if none was passed over, that is the least of all
@@ -53,7 +46,7 @@ gone_none j e =
     let m = over (low_in j) n zeros in
     let few = own_few (by_rows j.end) j.joined.ends in
     let long = length_over (low_in j) n zeros (omega (arith, few)) in
-    record { told = subst (λ (l : List ℤ). Overwritten (least_in j) n m 0 l) (sym e) (written_none (least_in j) n m (omega (arith, few, long))); above = λ _ i h. absurd (omega arith) }
+    record { told = written_start (least_in j) n e (omega (arith, few, long)); above = λ _ i h. absurd (omega arith) }
 
 module _ {j : Joint} {k : ℕ} {l : List ℤ} {passed : Bool} (g : Gone j k l passed) (h : k < length j.own.now) where
   -- what stands at the next position
@@ -68,7 +61,8 @@ module _ {j : Joint} {k : ℕ} {l : List ℤ} {passed : Bool} (g : Gone j k l pa
   pub gone_by : low_in j k ≡ least_in j k → Gone j (k + 1) l passed
   gone_by e = record {
     told = written_kept g.told h (over_at (low_in j) (length j.own.now) zeros k h ∙ e);
-    above = λ q i m. by-test (ltb i k) (λ t. g.above q i (ltb-true i k t)) (λ t. let r = ltb-false i k t in let z : i ≡ k = omega arith in ap (low_in j) z ∙ e ∙ ap (least_in j) (sym z));
+    above = λ q i m.
+        by-test (ltb i k) (λ t. g.above q i (ltb-true i k t)) (λ t. let r = ltb-false i k t in let z : i ≡ k = omega arith in ap (low_in j) z ∙ e ∙ ap (least_in j) (sym z));
   }
 
 -- after the last

@@ -62,7 +62,8 @@ module _ (I : Instance) (limit : ℕ) (nodes labels : List ℤ) (turned : Bool) 
   label_refused h = sym (if-false (label_moved limit nodes labels (first I u + k) (label_given I nodes labels turned u (first I u + k) r)) (label_move 12 nodes labels) h)
 
 -- what the moves ask
-pub edge_legal : {s : List ℕ} {limit : ℕ} {nodes edges : List ℤ} → NodeFits s nodes → EdgeFits s edges → CostsWithin limit nodes edges → (u e r : ℕ) → legal_edge (instance_of s) u e r ≡ true → EdgeLegal limit s nodes edges u e r
+pub edge_legal : {s : List ℕ} {limit : ℕ} {nodes edges : List ℤ} → NodeFits s nodes → EdgeFits s edges → CostsWithin limit nodes edges
+    → (u e r : ℕ) → legal_edge (instance_of s) u e r ≡ true → EdgeLegal limit s nodes edges u e r
 edge_legal {s} f g w u e r h =
     let (a, b, c, d) = legal_edge_is (instance_of s) u e r h in
     record { node_costs = f; edge_costs = g; ranged = w; node = b; edge = c; touches = d; shares = a }

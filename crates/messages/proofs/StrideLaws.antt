@@ -2,16 +2,15 @@
 -- Assumes nothing.
 use Rattle.std.proofs.Common.{◌≡◌, ℕ, ◌+◌, ◌*◌, ◌<◌, Bool, true, false, not, Option, List, length, get_or, ℤ, pos, sym, refl, ap, ◌∙◌, ap₂, arith, mul_comm, ext_get_or}
 use Rattle.integers.specs.Least.{min_ℤ, least_from}
-use Rattle.integers.specs.Places.{tabulate, range}
-use Rattle.integers.specs.Rows.{part}
-use Rattle.integers.proofs.Places.{map-ext, length-tabulate, get_d_tabulate}
+use Rattle.integers.specs.Places.{tabulate}
+use Rattle.integers.proofs.Places.{length-tabulate, get_d_tabulate}
 use Rattle.integers.proofs.Rows.{get_d_part}
 use Rattle.messages.specs.declared.edge_message.Joint.{Joint}
 use Rattle.messages.specs.Clash.{skipped}
 use Rattle.messages.specs.Joints.{own_step, other_step, line_in}
 use Rattle.messages.specs.EdgeMessage.{by_rows, width_of, height_of, line_at, left_of, unbounded, own_stride, other_stride, Ends}
-use Rattle.messages.proofs.EdgeLaws.{row_end, row-length}
-use Rattle.messages.proofs.UsableLaws.{least_but, but_more, but_all}
+use Rattle.messages.proofs.EdgeLaws.{row_end}
+use Rattle.messages.proofs.UsableLaws.{least_but, but_more, but_all, line_many}
 
 -- where the i-th cell of the position k stands
 abbrev pub spot : Bool → List ℕ → List ℕ → ℕ → ℕ → ℕ
@@ -23,26 +22,34 @@ module _ {own other : List ℕ} {l : List ℤ} where
   spot_in true e {k} {i} g h = omega (arith, row_end e.shape g refl)
   spot_in false e {k} {i} g h = let m = row_end e.shape {k = i} h refl in omega arith
 
-  -- the cells at a position are those
+  -- it holds the i-th of the cells at k
+  pub line_cell : (b : Bool) → Ends b own other l → (k i : ℕ) → i < length other
+      → get_or (line_at b (width_of b own other) (height_of b own other) l k) i (pos 0) ≡ get_or l (spot b own other k i) (pos 0)
+  line_cell true e k i h =
+      let w = length other in
+      let z : k * w + i ≡ k * w + i * 1 = omega arith in
+      get_d_part l (k * w) w i (pos 0) h ∙ ap (λ (j : ℕ). get_or l j (pos 0)) z
+  line_cell false e k i h =
+      let w = length own in
+      let z : w * i + k ≡ k * 1 + i * w = omega (arith, mul_comm w i) in
+      get_d_tabulate (length other) (λ r. get_or l (w * r + k) (pos 0)) i (pos 0) h ∙ ap (λ (j : ℕ). get_or l j (pos 0)) z
+
+  -- which are all of them
   pub line_spots : (b : Bool) → Ends b own other l → (k : ℕ) → k < length own
       → line_at b (width_of b own other) (height_of b own other) l k ≡ tabulate (length other) (λ i. get_or l (spot b own other k i) (pos 0))
-  unfolding tabulate
-  line_spots true e k g =
-      let w = length other in
-      let f : ℕ → ℤ = (λ i. get_or l (k * w + i * 1) (pos 0)) in
-      let n = row-length e.shape k g in
-      let m = length-tabulate w f in
-      ext_get_or (pos 0) (part l (k * w) w) (tabulate w f) (omega arith)
-      (λ i h. let z : k * w + i ≡ k * w + i * 1 = omega arith in
-      get_d_part l (k * w) w i (pos 0) (omega arith) ∙ ap (λ (j : ℕ). get_or l j (pos 0)) z ∙ sym (get_d_tabulate w f i (pos 0) (omega arith)))
-  line_spots false e k g =
-      let w = length own in
-      map-ext (λ r. get_or l (w * r + k) (pos 0)) (λ i. get_or l (k * 1 + i * w) (pos 0)) (range 0 (length other))
-      (λ r _. let z : w * r + k ≡ k * 1 + r * w = omega (arith, mul_comm w r) in ap (λ (j : ℕ). get_or l j (pos 0)) z)
+  line_spots b e k g =
+      let f : ℕ → ℤ = (λ i. get_or l (spot b own other k i) (pos 0)) in
+      let n = line_many b e k g in
+      ext_get_or (pos 0) (line_at b (width_of b own other) (height_of b own other) l k) (tabulate (length other) f) (n ∙ sym (length-tabulate (length other) f))
+      (λ i h. let m : i < length other = omega arith in line_cell b e k i m ∙ sym (get_d_tabulate (length other) f i (pos 0) m))
 
--- of a joint: the least of the first n cells at a position but for the one at `skip`
+-- of a joint: the i-th cell at a position
+abbrev pub cell_of : Joint → ℕ → ℕ → ℤ
+cell_of j k i = get_or j.cells.now (k * own_step j + i * other_step j) (pos 0)
+
+-- the least of the first n of them but for the one at `skip`
 abbrev pub low_so_far : Joint → ℕ → Option ℕ → ℕ → ℤ
-low_so_far j k skip n = least_but (λ i. get_or j.cells.now (k * own_step j + i * other_step j) (pos 0)) unbounded skip n
+low_so_far j k skip n = least_but (cell_of j k) unbounded skip n
 
 -- ---- by strides that the code found
 
@@ -55,13 +62,12 @@ module _ (j : Joint) {own other : ℕ} (s : (own ≡ own_step j) × (other ≡ o
   pub low_more : (k i : ℕ) (skip : Option ℕ) → not (skipped skip i) ≡ true → {at : ℕ} → at ≡ k * own + i * other → {best : ℤ} → best ≡ low_so_far j k skip i
       → min_ℤ (get_or j.cells.now at (pos 0)) best ≡ low_so_far j k skip (i + 1)
   low_more k i skip t e q =
-      let f : ℕ → ℤ = (λ i. get_or j.cells.now (k * own_step j + i * other_step j) (pos 0)) in
       ap₂ (λ (n : ℕ) (x : ℤ). min_ℤ (get_or j.cells.now n (pos 0)) x) (e ∙ ap₂ (λ (a b : ℕ). k * a + i * b) s.0 s.1) q
-      ∙ but_more f unbounded skip i t
+      ∙ but_more (cell_of j k) unbounded skip i t
 
 -- all of them
-pub low_all : (j : Joint) (k : ℕ) → k < length j.own.now → (skip : Option ℕ) {n : ℕ} → n ≡ length j.other.now → low_so_far j k skip n ≡ least_from unbounded (left_of (line_in j k) skip)
+pub low_all : (j : Joint) (k : ℕ) → k < length j.own.now → (skip : Option ℕ) {n : ℕ} → n ≡ length j.other.now
+    → low_so_far j k skip n ≡ least_from unbounded (left_of (line_in j k) skip)
 low_all j k g skip e =
-    let f : ℕ → ℤ = (λ i. get_or j.cells.now (k * own_step j + i * other_step j) (pos 0)) in
-    ap (λ (n : ℕ). low_so_far j k skip n) e ∙ but_all f unbounded skip (length j.other.now)
+    ap (low_so_far j k skip) e ∙ but_all (cell_of j k) unbounded skip (length j.other.now)
     ∙ ap (λ (m : List ℤ). least_from unbounded (left_of m skip)) (sym (line_spots (by_rows j.end) j.joined.ends k g))

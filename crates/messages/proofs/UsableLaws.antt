@@ -114,17 +114,18 @@ line_is false {own} {other} {l} e k g skip x =
     ∙ ap (λ (m : List ℤ). without m skip) (map-ext (λ r. f (c r)) (λ r. f (w * r + k)) (range 0 h) (λ r _. let z : c r ≡ w * r + k = omega arith in ap f z)))
 
 -- as many cells as the other end has labels
-line-few : (b : Bool) {own other : List ℕ} {l : List ℤ} → Ends b own other l → (k : ℕ) → k < length own
-    → length (line_at b (width_of b own other) (height_of b own other) l k) ≤ length other
-line-few true {own} {other} {l} e k g = let z = row-length e.shape k g in omega arith
-line-few false {own} {other} {l} e k g = let z = length-tabulate (length other) (λ r. get_or l (length own * r + k) (pos 0)) in omega arith
+pub line_many : (b : Bool) {own other : List ℕ} {l : List ℤ} → Ends b own other l → (k : ℕ) → k < length own
+    → length (line_at b (width_of b own other) (height_of b own other) l k) ≡ length other
+line_many true e k g = row-length e.shape k g
+line_many false {own} {other} {l} e k g = length-tabulate (length other) (λ r. get_or l (length own * r + k) (pos 0))
 
 -- the same by the place that is skipped, if there is one
 pub line_left : (b : Bool) {own other : List ℕ} {l : List ℤ} → Ends b own other l → (k : ℕ) → k < length own → {skip : Option ℕ} → Skips other (get_or own k 0) skip
     → left_of (line_at b (width_of b own other) (height_of b own other) l k) skip ≡ cells_at b own other l k
 line_left b {own} {other} {l} e k g {skip = Some p} x = line_is b e k g p x.passed
 line_left b {own} {other} {l} e k g {skip = None} x =
-    sym (without_past (line_at b (width_of b own other) (height_of b own other) l k) (length other) (line-few b e k g))
+    let n = line_many b e k g in
+    sym (without_past (line_at b (width_of b own other) (height_of b own other) l k) (length other) (omega arith))
     ∙ line_is b e k g (length other) (skips_past x)
 
 -- ---- the positions of the end

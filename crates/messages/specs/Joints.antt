@@ -29,7 +29,7 @@ module _ (j : Joint) where
 
   -- at each position no unusable cell is lower than the least usable one
   abbrev pub Above : Type 0
-  Above = (k : ℕ) → k < length j.own.now → least_from unbounded (line_in k) ≡ least_in k
+  Above = (k : ℕ) → k < length j.own.now → low_in k ≡ least_in k
 
   -- how far apart the cells of neighbouring positions stand: of this end, and of the other
   abbrev pub own_step : ℕ

@@ -16,7 +16,7 @@ use crate::rows::{OUT, UNBOUNDED, all_half, excess, least_of, share_of};
 use crate::share::Share;
 
 // What the least of a position gives down to the least of all, turned round, and 0 if it has no usable cell.
-// Kept: that costs are within the limit is asked for here, in `turn_all` and in `excess_with`, as in `share_of`.
+// Kept: that costs are within the limit is asked for here, in `turn_all` and where one is tested, as in `share_of`.
 // Kept: no `Option` for a position without a usable cell, as the array of the leasts becomes that of the amounts.
 #[tactic(auto, using(integers::proofs::Bits::answer, integers::proofs::Share::share_back), unfolding(crate::specs::EdgeMessage::turned_least))]
 fn turned_least(cost: i64, low: i64, share: Share) -> i64

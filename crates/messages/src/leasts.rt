@@ -22,7 +22,7 @@ impl Joint<'_> {
         }
     }
 
-    // The least cells of four positions, of which `k` is the first.
+    // The least cells of four positions, of which `k` is the first: side by side, as four minima wait for each other less.
     fn four_lows(&self, k: usize) -> [i64; 4]
         requires { k + 4 ≤ length self.now.own.now }
         ensures { result ≡ tabulate 4 (λ t. low_in self.now (k + t)) }
@@ -59,6 +59,7 @@ impl Joint<'_> {
     }
 
     // The leasts of the positions in whole fours.
+    // Kept: by their places, since a proof knows nothing of what is written through `chunks_exact_mut`.
     fn lows_by_four(&self, least: &mut [i64; 16])
         requires { least.old ≡ replicate 16 (pos 0) }
         ensures { least.new ≡ over (low_in self.now) (length self.now.own.now / 4 * 4) (replicate 16 (pos 0)) }
@@ -73,7 +74,7 @@ impl Joint<'_> {
         }
     }
 
-    // Of those left.
+    // And of those left after the whole fours.
     fn lows_left(&self, least: &mut [i64; 16])
         requires { least.old ≡ over (low_in self.now) (length self.now.own.now / 4 * 4) (replicate 16 (pos 0)) }
         ensures { least.new ≡ over (low_in self.now) (length self.now.own.now) (replicate 16 (pos 0)) }

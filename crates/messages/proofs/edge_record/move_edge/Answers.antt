@@ -1,11 +1,11 @@
 -- `move_edge` meets its contract: the sheet says where the row, the table and the labels of both ends stand, and the parts move as the rules say.
 use Rattle.std.proofs.Common.{◌≡◌, ℕ, ◌^◌, ◌<◌, refl, Bool, cond, eqb, List, sym, ap, ◌∙◌, subst, arith}
+use Rattle.integers.specs.Sum.{Within}
 use Rattle.integers.proofs.Places.{by_cond}
 use Rattle.instance.specs.declared.sheet.Sheet.{Sheet}
 use Rattle.instance.specs.Instance.{Instance}
 use Rattle.instance.specs.Sheet.{instance_of}
 use Rattle.instance.specs.Described.{labels_of}
-use Rattle.integers.specs.Sum.{Within}
 use Rattle.messages.specs.EdgeMessage.{by_rows}
 use Rattle.messages.specs.EdgeRecord.{EdgeLegal}
 use Rattle.messages.specs.Records.{to_node}

@@ -10,6 +10,8 @@ pub returns-then-all_half-2 : goal.returns-then-all_half-2
 returns-then-all_half-2 c =
     let j = c.args.self.now in
     let v = c.args.amounts.each.now in
-    let k : ℕ → ℕ = (λ i. position_in (by_rows j.end) (columns j) i) in
+    let b = by_rows j.end in
+    let k : ℕ → ℕ = (λ i. position_in b (columns j) i) in
+    let half = c.all_half.ensures c.if-all_half.true in
     sym (halves_fit (omega arith) (λ i. get_or v (k i) (pos 0)) j.cells.now (c.all_half-then-all_half.ensures c.if-all_half-2.true)
-    (λ i h. subst (λ (z : ℤ). nat_abs z ≤ c.args.limit.most / 2) (get_or-take (length j.own.now) v (k i) (pos 0) (position_below (by_rows j.end) j.joined.ends i h)) (c.all_half.ensures c.if-all_half.true (k i))))
+    (λ i h. subst (λ (z : ℤ). nat_abs z ≤ c.args.limit.most / 2) (get_or-take (length j.own.now) v (k i) (pos 0) (position_below b j.joined.ends i h)) (half (k i))))

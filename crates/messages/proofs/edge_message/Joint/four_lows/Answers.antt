@@ -51,6 +51,7 @@ returns c =
     let k = c.args.k in
     let e : c.loop-i.i ≡ length j.other.now = omega (arith, c.loop-i-test.false, c.loop-i.auto) in
     let v = c.loop-i.invariant in
-    let whole : (t : ℕ) → t < 4 → low_so_far j (k + t) None c.loop-i.i ≡ low_in j (k + t) = (λ t h. low_all j (k + t) (omega arith) None e) in
+    let so : ℕ → ℤ = (λ n. low_so_far j n None c.loop-i.i) in
+    let whole : (t : ℕ) → t < 4 → so (k + t) ≡ low_in j (k + t) = (λ t h. low_all j (k + t) (omega arith) None e) in
     let z : k ≡ k + 0 = omega arith in
-    four (λ t. low_in j (k + t)) (v.0 ∙ ap (λ (n : ℕ). low_so_far j n None c.loop-i.i) z ∙ whole 0 (omega arith)) (v.1 ∙ whole 1 (omega arith)) (v.2 ∙ whole 2 (omega arith)) (v.3 ∙ whole 3 (omega arith))
+    four (λ t. low_in j (k + t)) (v.0 ∙ ap so z ∙ whole 0 (omega arith)) (v.1 ∙ whole 1 (omega arith)) (v.2 ∙ whole 2 (omega arith)) (v.3 ∙ whole 3 (omega arith))

@@ -3,16 +3,16 @@ use Rattle.std.proofs.Common.{◌≡◌, ◌^◌, Bool, ◌&&◌, ap, List, get_
 use Rattle.integers.specs.Least.{least_of}
 use Rattle.integers.specs.Share.{share}
 use Rattle.integers.specs.Sum.{Within}
+use Rattle.integers.specs.Places.{every}
+use Rattle.integers.specs.Checks.{within}
 use Rattle.integers.proofs.Bits.{answer}
 use Rattle.rules.specs.Calls.{cost_limit}
 use Rattle.messages.specs.EdgeMessage.{node_amounts}
-use Rattle.integers.specs.Places.{every}
-use Rattle.integers.specs.Checks.{within}
 use Rattle.messages.specs.Joints.{cells_with}
 use Rattle.messages.proofs.FallLaws.{row_falls}
 use Rattle.messages.proofs.RowLaws.{least_of_within}
-use Rattle.messages.proofs.OverLaws.{written_none, written_more, written_all}
-use Rattle.messages.proofs.EdgeLaws.{zeros, node_is, node_within}
+use Rattle.messages.proofs.OverLaws.{written_start, written_more, written_all}
+use Rattle.messages.proofs.EdgeLaws.{node_is, node_within}
 use Rattle.messages.proofs.edge_message.Joint.from_node.Goals as goal
 use Rattle.messages.proofs.edge_message.Joint.from_node.Goals.{After-least_of-low, After-loop-k}
 
@@ -33,7 +33,7 @@ loop-k-preserved c =
     ∙ ap₂ (λ (x b : ℤ). share (x -ℤ b) c.args.share.parts) (to_z-of_z {w = w64} {z = get_or c.args.self.now.row.now c.loop-k.k (pos 0)} (search rules)) (low (goal.at.loop-k-preserved c).After-least_of-low))
 
 pub loop-k-init : goal.loop-k-init
-loop-k-init c = rw c.requires.zeros (written_none _ _ zeros c.args.self.now.joined.few)
+loop-k-init c = written_start _ _ c.requires.zeros c.args.self.now.joined.few
 
 -- what is given
 given : (c : After-loop-k) → c.loop-k.each ≡ node_amounts c.args.self.now.row.now c.args.share.parts
@@ -42,7 +42,7 @@ given c = let x = c.args.self.now in written_all c.loop-k.invariant (omega arith
 pub invariant_of-cells_fit : goal.invariant_of-cells_fit
 invariant_of-cells_fit c =
     let x = c.args.self.now in
-    record { small = subst (λ (l : List ℤ). Within (2 ^ 41) l) (sym (given (goal.at.invariant_of-cells_fit c).After-loop-k)) (node_within x.row.now c.args.share.parts x.joined.row_range) }
+    record { small = subst (Within (2 ^ 41)) (sym (given (goal.at.invariant_of-cells_fit c).After-loop-k)) (node_within x.row.now c.args.share.parts x.joined.row_range) }
 
 pub returns-clause-given : goal.returns-clause-given
 returns-clause-given c = given (goal.at.returns-clause-given c).After-loop-k
@@ -52,5 +52,6 @@ pub returns-clause-fits : goal.returns-clause-fits
 returns-clause-fits c =
     let x = c.args.self.now in
     let m = c.args.limit.most in
+    let r = c.args.share.parts in
     c.cells_fit.ensures ∙ ap (λ (l : List ℤ). every (within m) (cells_with x l)) (given (goal.at.returns-clause-fits c).After-loop-k)
-    ∙ sym (ap (λ (t : Bool). t && every (within m) (cells_with x (node_amounts x.row.now c.args.share.parts))) (row_falls m x.row.now c.args.share.parts x.joined.few c.requires.within.of_nodes))
+    ∙ sym (ap (λ (t : Bool). t && every (within m) (cells_with x (node_amounts x.row.now r))) (row_falls m x.row.now r x.joined.few c.requires.within.of_nodes))

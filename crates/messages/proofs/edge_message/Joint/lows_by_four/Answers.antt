@@ -1,19 +1,17 @@
 -- `lows_by_four` meets its contract. The loop's invariant: the first 4q places hold the least of all cells there.
-use Rattle.std.proofs.Common.{◌≡◌, ℕ, ◌+◌, ◌*◌, ◌/◌, ◌<◌, ◌≤◌, List, length, get_or, ℤ, pos, sym, refl, ap, ◌∙◌, subst, arith, w64, to_z, of_z, to_z-of_z, rules}
+use Rattle.std.proofs.Common.{◌≡◌, ℕ, ◌+◌, ◌*◌, ◌/◌, ◌<◌, ◌≤◌, List, length, get_or, ℤ, pos, refl, ap, ◌∙◌, arith, w64, to_z, of_z, to_z-of_z, rules}
 use Rattle.integers.proofs.Places.{get_d_tabulate}
 use Rattle.messages.specs.EdgeMessage.{by_rows}
 use Rattle.messages.specs.Joints.{low_in}
-use Rattle.messages.proofs.OverLaws.{Overwritten, written_none, written_on, written_all}
-use Rattle.messages.proofs.EdgeLaws.{zeros}
+use Rattle.messages.proofs.OverLaws.{written_start, written_on, written_all}
 use Rattle.messages.proofs.UsableLaws.{own_few}
 use Rattle.messages.proofs.edge_message.Joint.lows_by_four.Goals as goal
 
 pub loop-q-init : goal.loop-q-init
 loop-q-init c =
     let j = c.args.self.now in
-    let n = length j.own.now / 4 * 4 in
     let few = own_few (by_rows j.end) j.joined.ends in
-    subst (λ (l : List ℤ). Overwritten (low_in j) n zeros 0 l) (sym c.requires) (written_none (low_in j) n zeros (omega (arith, few)))
+    written_start (low_in j) (length j.own.now / 4 * 4) c.requires (omega (arith, few))
 
 pub loop-q-preserved : goal.loop-q-preserved
 loop-q-preserved c =

@@ -91,7 +91,7 @@ given c =
 pub invariant_of-amounts : goal.invariant_of-amounts
 invariant_of-amounts c =
     let j = c.args.self.now in
-    record { small = subst (λ (l : List ℤ). Within (2 ^ 41) l) (sym (given (goal.at.invariant_of-amounts c).After-turn_all)) (edge_within (b j) j.own.now j.other.now j.cells.now c.args.share.parts (range j)) }
+    record { small = subst (Within (2 ^ 41)) (sym (given (goal.at.invariant_of-amounts c).After-turn_all)) (edge_within (b j) j.own.now j.other.now j.cells.now c.args.share.parts (range j)) }
 
 -- the row's test
 module _ (c : After-row_fits) where
@@ -129,7 +129,7 @@ returns-then-not-passed-clause-fits c =
     let x = c.args.self.now in
     ap not c.if-not-passed.true
     ∙ with_cells (goal.at.returns-then-not-passed-clause-fits c).After-row_fits (sym c.if-row_fits.true)
-    (sym (cells_fall (ends x) (c.leasts-passed.ensures.above c.if-not-passed.true) c.args.limit.most c.args.limit.few c.requires.within.of_edges c.args.share.parts))
+    (sym (cells_fall x (c.leasts-passed.ensures.above c.if-not-passed.true) c.args.limit.most c.requires.within.of_edges c.args.share.parts))
 
 pub returns-else-not-passed-clause-fits : goal.returns-else-not-passed-clause-fits
 returns-else-not-passed-clause-fits c =
