@@ -54,16 +54,6 @@ pub(crate) fn least(row: &[i64], start: i64) -> i64
 // Kept: a minimum starts from it; as an `Option` each cost would first ask whether there is a least so far.
 pub(crate) const UNBOUNDED: i64 = i64::MAX;
 
-// The least of `start` and the costs of a row but for the one at `skip`.
-#[tactic(auto, using(crate::proofs::RowLaws::least_parts, integers::proofs::Bits::answer, integers::proofs::Least::least_append, integers::proofs::Rows::tail_part))]
-pub(crate) fn least_but(row: &[i64], skip: usize, start: i64) -> i64
-    requires { skip < length row.now }
-    ensures { result ≡ least_from start (without row.now skip) }
-{
-    let next = skip + 1;
-    least(&row[next..], least(&row[..skip], start))
-}
-
 // The least cost of a row. That the first counts twice changes nothing.
 #[tactic(auto, using(crate::proofs::LeastLaws::least_whole, integers::proofs::Bits::answer))]
 pub(crate) fn least_of(row: &[i64]) -> i64
