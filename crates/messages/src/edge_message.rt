@@ -1,10 +1,10 @@
 // Messages between one node's costs and one edge's table: what is given, whether both stay within the limit, and the moves. Document 01, kinds 1 and 2.
-ghost use Rattle.std.specs.Prelude.{◌≡◌, ℕ, ◌^◌, ◌<◌, ◌≤◌, length, replicate, pos, ◌+ℤ◌, ◌<ℤ◌, nat_lt, slice_index_or, neg_ℤ, unsigned_abs};
+ghost use Rattle.std.specs.Prelude.{◌≡◌, false, ℕ, ◌^◌, ◌<◌, ◌≤◌, length, replicate, pos, ◌+ℤ◌, ◌<ℤ◌, nat_lt, slice_index_or, neg_ℤ, unsigned_abs};
 ghost use Rattle.integers.specs.Sum.{Within};
 ghost use Rattle.integers.specs.Places.{every, tabulate};
 ghost use Rattle.integers.specs.Checks.{within};
 ghost use Rattle.rules.specs.Calls.{cost_limit};
-ghost use Rattle.messages.specs.EdgeMessage.{by_rows, moved_row, moved_cells, moved_line, Shape, Line, unbounded, turned_least};
+ghost use Rattle.messages.specs.EdgeMessage.{by_rows, moved_row, moved_cells, moved_line, Shape, Line, unbounded, turned_least, node_amounts, edge_amounts};
 ghost use Rattle.messages.specs.declared.records.Flow.TheVariants.{FromNode, ToNode};
 ghost use Rattle.messages.specs.EdgeRecord.{Joined, CostsWithin};
 
@@ -123,7 +123,7 @@ pub(crate) struct Joint<'a> {
 }
 
 impl Joint<'_> {
-    ghost use Rattle.messages.specs.Joints.{columns, rows, given_in, cells_with, fit_in};
+    ghost use Rattle.messages.specs.Joints.{columns, rows, given_in, cells_with, fit_in, Above};
 
     // How many columns the table has: as many as the higher end has positions.
     pub(crate) fn width(&self) -> usize
@@ -178,46 +178,57 @@ impl Joint<'_> {
         all < OUT
     }
 
-    // Kind 1: what each position of the node gives, and whether all stay within the limit. The node's costs fall toward their least and stay there, so the cells alone are tested.
-    fn from_node(&self, share: Share, limit: Limit, each: &mut [i64; 16]) -> bool
+    // Kind 1: what each position of the node gives.
+    // Kept: the array is the caller's, here and in the three below, and filled in place: made here it would be copied out.
+    fn node_amounts(&self, share: Share, each: &mut [i64; 16])
         requires zeros { each.old ≡ replicate 16 (pos 0) }
-        requires within { CostsWithin limit.most self.now.row.now self.now.cells.now }
-        ensures given { each.new ≡ given_in self.now FromNode share.parts }
-        ensures fits { result ≡ fit_in self.now limit.most (given_in self.now FromNode share.parts) }
+        ensures { each.new ≡ node_amounts self.now.row.now share.parts }
     {
         let low = least_of(self.row);
         for (k, cost) in self.row.iter().enumerate() {
             each[k] = share_of(*cost, low, share);
         }
-        self.cells_fit(Amounts { each }, limit)
     }
 
-    // Kind 2, turned round: what each position of the edge's end gives. The cells fall toward the least usable one; only an unusable one that is lower might pass the limit.
-    fn to_node(&self, share: Share, limit: Limit, each: &mut [i64; 16]) -> bool
+    // Kind 2, turned round: what each position of the edge's end gives. Whether an unusable cell was lower than the usable ones of its position.
+    fn edge_amounts(&self, share: Share, each: &mut [i64; 16]) -> bool
         requires zeros { each.old ≡ replicate 16 (pos 0) }
-        requires within { CostsWithin limit.most self.now.row.now self.now.cells.now }
-        ensures given { each.new ≡ given_in self.now ToNode share.parts }
-        ensures fits { result ≡ fit_in self.now limit.most (given_in self.now ToNode share.parts) }
+        ensures given { each.new ≡ edge_amounts (by_rows self.now.end) self.now.own.now self.now.other.now self.now.cells.now share.parts }
+        ensures above { result ≡ false → Above self.now }
     {
         let passed = self.leasts(each);
         let many = self.own.len();
         let low = least_of(&each[..many]);
         turn_all(&mut each[..many], low, share);
-        let amounts = Amounts { each };
-        self.row_fits(amounts, limit) && (!passed || self.cells_fit(amounts, limit))
+        passed
     }
 
-    // What each position of the node gives, or, turned round, what each position of the edge's end does; whether the node's costs and the edge's cells stay within the limit.
-    // Kept: the array is the caller's, here and of either way, and filled in place: made here it would be copied out. That the costs are within the limit is asked for: the limit is the call's, and a `Joint` has none.
+    // Either of both; whether a cell may come to pass the limit. Cells that give fall toward the least usable one: only an unusable one that is lower may.
+    fn give(&self, flow: Flow, share: Share, each: &mut [i64; 16]) -> bool
+        requires zeros { each.old ≡ replicate 16 (pos 0) }
+        ensures given { each.new ≡ given_in self.now flow share.parts }
+        ensures above { result ≡ false → (flow ≡ ToNode) × Above self.now }
+    {
+        match flow {
+            Flow::FromNode => {
+                self.node_amounts(share, each);
+                true
+            }
+            Flow::ToNode => self.edge_amounts(share, each),
+        }
+    }
+
+    // What each position gives, and whether the node's costs and the edge's cells stay within the limit. The costs of a node that gives fall toward their least.
+    // Kept: one call of each test, so that the compiler puts it here. That the costs are within the limit is asked for: the limit is the call's, and a `Joint` has none.
     pub(crate) fn weigh(&self, flow: Flow, share: Share, limit: Limit, each: &mut [i64; 16]) -> bool
         requires zeros { each.old ≡ replicate 16 (pos 0) }
         requires within { CostsWithin limit.most self.now.row.now self.now.cells.now }
         ensures given { each.new ≡ given_in self.now flow share.parts }
         ensures fits { result ≡ fit_in self.now limit.most (given_in self.now flow share.parts) }
     {
-        match flow {
-            Flow::FromNode => self.from_node(share, limit, each),
-            Flow::ToNode => self.to_node(share, limit, each),
-        }
+        let rises = self.give(flow, share, each);
+        let amounts = Amounts { each };
+        (flow == Flow::FromNode || self.row_fits(amounts, limit))
+            && (!rises || self.cells_fit(amounts, limit))
     }
 }

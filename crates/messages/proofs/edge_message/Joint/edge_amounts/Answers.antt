@@ -1,4 +1,4 @@
--- `to_node` meets its contract: the least of each position, the least of these, and what each gives; the row is tested, and the cells where one of them might pass the limit.
+-- `edge_amounts` meets its contract: the least of each position, the least of these, and what each gives.
 use Rattle.std.proofs.Common.{◌≡◌, ℕ, ◌^◌, ◌<◌, ◌≤◌, Bool, not, ◌&&◌, List, ◌++◌, length, get_or, take, drop, ℤ, pos, sym, refl, ap, ◌∙◌, subst, arith, length-take-le, get_or-take, w64, to_z, of_z}
 use Rattle.integers.specs.Least.{least_of}
 use Rattle.integers.specs.Sum.{Within}
@@ -13,8 +13,8 @@ use Rattle.messages.proofs.OverLaws.{length_over, over_at, over_front}
 use Rattle.messages.proofs.EdgeLaws.{zeros, edge_within}
 use Rattle.messages.proofs.UsableLaws.{own_few, low_within, position_within, edge_least_lem, edge_is}
 use Rattle.messages.proofs.FallLaws.{cells_fall}
-use Rattle.messages.proofs.edge_message.Joint.to_node.Goals as goal
-use Rattle.messages.proofs.edge_message.Joint.to_node.Goals.{After-leasts-passed, After-least_of-low, After-turn_all, After-row_fits}
+use Rattle.messages.proofs.edge_message.Joint.edge_amounts.Goals as goal
+use Rattle.messages.proofs.edge_message.Joint.edge_amounts.Goals.{After-leasts-passed, After-least_of-low, After-turn_all}
 
 -- the end and its table
 module _ (j : Joint) where
@@ -88,53 +88,5 @@ given c =
     ∙ (λ i. let m = c.leasts-passed.ensures.lows i in over (λ k. turned_least (get_or m k (pos 0)) (low l i) r) (n (j s)) m)
     ∙ edge_is (ends (j s)) (range (j s)) r
 
-pub invariant_of-amounts : goal.invariant_of-amounts
-invariant_of-amounts c =
-    let j = c.args.self.now in
-    record { small = subst (Within (2 ^ 41)) (sym (given (goal.at.invariant_of-amounts c).After-turn_all)) (edge_within (b j) j.own.now j.other.now j.cells.now c.args.share.parts (range j)) }
-
--- the row's test
-module _ (c : After-row_fits) where
-  abbrev q : Joint
-  q = c.args.self.now
-
-  abbrev limit : ℕ
-  limit = c.args.limit.most
-
-  abbrev v : List ℤ
-  v = given_by q c.args.share.parts
-
-  told : c.turn_all.new.least ++ drop (n q) c.leasts-passed.new.least ≡ v
-  told = given (goal.at.After-row_fits c).After-turn_all
-
-  row_told : c.row_fits.result ≡ every (within limit) (moved_row v q.row.now)
-  row_told = c.row_fits.ensures ∙ ap (λ (l : List ℤ). every (within limit) (moved_row l q.row.now)) told
-
-  -- and the row's answer with the cells'
-  with_cells : {t x : Bool} → t ≡ c.row_fits.result → x ≡ every (within limit) (cells_with q v) → (t && x) ≡ fit_in q limit v
-  with_cells e f = λ i. (e ∙ row_told) i && f i
-
-pub returns-then-not-passed-clause-given : goal.returns-then-not-passed-clause-given
-returns-then-not-passed-clause-given c = told (goal.at.returns-then-not-passed-clause-given c).After-row_fits
-
-pub returns-else-not-passed-clause-given : goal.returns-else-not-passed-clause-given
-returns-else-not-passed-clause-given c = told (goal.at.returns-else-not-passed-clause-given c).After-row_fits
-
-pub returns-else-row_fits-clause-given : goal.returns-else-row_fits-clause-given
-returns-else-row_fits-clause-given c = told (goal.at.returns-else-row_fits-clause-given c).After-row_fits
-
--- with the cells' test; where none was passed over they fall
-pub returns-then-not-passed-clause-fits : goal.returns-then-not-passed-clause-fits
-returns-then-not-passed-clause-fits c =
-    let x = c.args.self.now in
-    ap not c.if-not-passed.true
-    ∙ with_cells (goal.at.returns-then-not-passed-clause-fits c).After-row_fits (sym c.if-row_fits.true)
-    (sym (cells_fall x (c.leasts-passed.ensures.above c.if-not-passed.true) c.args.limit.most c.requires.within.of_edges c.args.share.parts))
-
-pub returns-else-not-passed-clause-fits : goal.returns-else-not-passed-clause-fits
-returns-else-not-passed-clause-fits c =
-    let p = (goal.at.returns-else-not-passed-clause-fits c).After-row_fits in
-    with_cells p (sym c.if-row_fits.true) (c.cells_fit.ensures ∙ ap (λ (l : List ℤ). every (within (limit p)) (cells_with (q p) l)) (told p))
-
-pub returns-else-row_fits-clause-fits : goal.returns-else-row_fits-clause-fits
-returns-else-row_fits-clause-fits c = c.if-row_fits.false ∙ with_cells (goal.at.returns-else-row_fits-clause-fits c).After-row_fits (sym c.if-row_fits.false) refl
+pub returns-clause-given : goal.returns-clause-given
+returns-clause-given c = given (goal.at.returns-clause-given c).After-turn_all

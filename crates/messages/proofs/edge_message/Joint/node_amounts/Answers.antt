@@ -1,4 +1,4 @@
--- `from_node` meets its contract. The loop's invariant: the first k places hold what those positions give, and the others 0.
+-- `node_amounts` meets its contract. The loop's invariant: the first k places hold what those positions give, and the others 0.
 use Rattle.std.proofs.Common.{◌≡◌, ◌^◌, Bool, ◌&&◌, ap, List, get_or, ℤ, pos, ◌-ℤ◌, sym, ◌∙◌, subst, ap₂, w64, to_z, of_z, arith, to_z-of_z, rules}
 use Rattle.integers.specs.Least.{least_of}
 use Rattle.integers.specs.Share.{share}
@@ -13,8 +13,8 @@ use Rattle.messages.proofs.FallLaws.{row_falls}
 use Rattle.messages.proofs.RowLaws.{least_of_within}
 use Rattle.messages.proofs.OverLaws.{written_start, written_more, written_all}
 use Rattle.messages.proofs.EdgeLaws.{node_is, node_within}
-use Rattle.messages.proofs.edge_message.Joint.from_node.Goals as goal
-use Rattle.messages.proofs.edge_message.Joint.from_node.Goals.{After-least_of-low, After-loop-k}
+use Rattle.messages.proofs.edge_message.Joint.node_amounts.Goals as goal
+use Rattle.messages.proofs.edge_message.Joint.node_amounts.Goals.{After-least_of-low, After-loop-k}
 
 -- the least read back
 low : (c : After-least_of-low) → to_z w64 (of_z w64 c.least_of-low.result) ≡ least_of c.args.self.now.row.now
@@ -35,23 +35,5 @@ loop-k-preserved c =
 pub loop-k-init : goal.loop-k-init
 loop-k-init c = written_start _ _ c.requires.zeros c.args.self.now.joined.few
 
--- what is given
-given : (c : After-loop-k) → c.loop-k.each ≡ node_amounts c.args.self.now.row.now c.args.share.parts
-given c = let x = c.args.self.now in written_all c.loop-k.invariant (omega arith) ∙ node_is x.row.now c.args.share.parts x.joined.few
-
-pub invariant_of-cells_fit : goal.invariant_of-cells_fit
-invariant_of-cells_fit c =
-    let x = c.args.self.now in
-    record { small = subst (Within (2 ^ 41)) (sym (given (goal.at.invariant_of-cells_fit c).After-loop-k)) (node_within x.row.now c.args.share.parts x.joined.row_range) }
-
-pub returns-clause-given : goal.returns-clause-given
-returns-clause-given c = given (goal.at.returns-clause-given c).After-loop-k
-
--- the node's costs fall
-pub returns-clause-fits : goal.returns-clause-fits
-returns-clause-fits c =
-    let x = c.args.self.now in
-    let m = c.args.limit.most in
-    let r = c.args.share.parts in
-    c.cells_fit.ensures ∙ ap (λ (l : List ℤ). every (within m) (cells_with x l)) (given (goal.at.returns-clause-fits c).After-loop-k)
-    ∙ sym (ap (λ (t : Bool). t && every (within m) (cells_with x (node_amounts x.row.now r))) (row_falls m x.row.now r x.joined.few c.requires.within.of_nodes))
+pub returns : goal.returns
+returns c = let x = c.args.self.now in written_all c.loop-k.invariant (omega arith) ∙ node_is x.row.now c.args.share.parts x.joined.few
