@@ -1,7 +1,8 @@
 -- The indexes of a sheet, as they are made of its bytes.
 -- Assumes nothing.
-use Rattle.std.proofs.Common.{◌≡◌, ℕ, ◌+◌, ◌-◌, ◌*◌, ◌<◌, ◌≤◌, eqb, List, length, get_or, take, drop, sym, subst, ap₂, ◌∙◌, arith}
+use Rattle.std.proofs.Common.{◌≡◌, Option, Some, Bor, ap, ℕ, ◌+◌, ◌-◌, ◌*◌, ◌<◌, ◌≤◌, eqb, List, length, get_or, take, drop, sym, subst, ap₂, ◌∙◌, arith}
 use mathlib.Core.List.{Memᴰ as Mem}
+use Rattle.std.specs.Option.{ForSome, option_copied}
 use denote.Enum.Declared.{tag_of}
 use Rattle.instance.specs.declared.sheet.Sheet.{Sheet}
 use Rattle.instance.specs.Instance.{Instance, first, node_cells}
@@ -23,6 +24,11 @@ use Rattle.messages.specs.Indexes.{place_index, edge_index, Ended}
 pub end_few : (e : End) → tag_of end_type e ≤ 1
 end_few Lower = omega arith
 end_few Higher = omega arith
+
+-- ---- an index that is made where it is asked for: what holds of it holds of the one that is read
+
+pub made_is : {A : Type 0} {P : A → Type 0} {made : Option A} {read : Option (Bor A)} {x : Bor A} → ForSome made P → option_copied read ≡ made → read ≡ Some x → P x.now
+made_is {x = x} f e q = f x.now (sym e ∙ ap option_copied q)
 
 -- ---- a row of any index
 

@@ -53,7 +53,7 @@ fn start<'a>(sheet: &'a [u8], limit: Limit, records: &[u8], lent: Lent) -> Resul
     if records.len() % 5 != 0 {
         return Err(Refusal::PartialRecord);
     }
-    Ok(Run::new(sheet, limit))
+    Ok(Run { sheet, limit })
 }
 
 // Runs a list of records. Refused as a whole it writes nothing; stopped at a record, it leaves what the records before it made.
@@ -83,6 +83,7 @@ pub fn run(
                 edges,
                 incumbent,
                 holders: None,
+                lowers: None,
                 known: None,
             };
             state.run_all(records)

@@ -1,5 +1,6 @@
 // A record of kind 5: a rounding is stuck, or what it found may take the incumbent's place.
 ghost use Rattle.std.specs.Prelude.{◌≡◌, ◌&&◌, ◌==◌};
+ghost use Rattle.std.specs.Option.{IsSome};
 ghost use Rattle.instance.specs.Refusal.{refused_in};
 ghost use Rattle.rules.specs.Run.{rounding};
 ghost use Rattle.messages.specs.Step.{settle, stuck_in};
@@ -25,6 +26,7 @@ impl State<'_> {
     // Rounds, and adopts what was found. How many roundings were stuck, 0 or 1.
     // Kept: a count, as a run adds them up.
     pub(crate) fn round_record(&mut self, step: Record) -> Result<usize, Refusal>
+        requires { IsSome self.old.lowers }
         ensures same { Same self.old self.new }
         ensures left { settle (buffers_in self.new) (stuck_in result) (refused_in result) ≡ leaves self.old rounding step }
     {

@@ -1,13 +1,16 @@
 // Rounding by equation (10): node by node the free position with the least key, the lowest of equals. Document 01, record 5.
 ghost use Rattle.std.specs.Prelude.{◌≡◌, ℕ, ◌+◌, ◌^◌, ◌<◌, ◌≤◌, true, IfSome, length, pos, slice_index_or};
+ghost use Rattle.std.specs.Option.{IsSome};
 ghost use Rattle.integers.specs.Sum.{Within};
 ghost use Rattle.instance.specs.Instance.{first};
 ghost use Rattle.instance.specs.Sheet.{instance_of};
 ghost use Rattle.rules.specs.Calls.{cost_limit};
 ghost use Rattle.rules.specs.Rounding.{round};
 ghost use Rattle.messages.specs.Rounded.{costs_by, rounded_by, added, keys_at, edge_row, better, chosen_from, Placed};
-ghost use Rattle.messages.specs.State.{instance_in};
+ghost use Rattle.messages.specs.State.{Same, instance_in, buffers_in};
 
+use crate::end::End;
+use crate::indexes::edges_by;
 use crate::state::State;
 use instance::{Sheet, exclusive};
 
@@ -54,6 +57,16 @@ fn choose(sheet: &Sheet, u: usize, keys: &[i64; 16], untaken: &[bool; 256]) -> O
 }
 
 impl State<'_> {
+    // Makes the index of the edges by their higher ends, where no record has asked for it before.
+    pub(crate) fn make_lowers(&mut self)
+        ensures same { Same self.old self.new × (buffers_in self.new ≡ buffers_in self.old) }
+        ensures made { IsSome self.new.lowers }
+    {
+        if self.lowers.is_none() {
+            self.lowers = Some(edges_by(&self.run.sheet, End::Higher));
+        }
+    }
+
     // Adds the row of edge `e` that its lower end's position picks; `u` is its higher end.
     fn add_edge(&self, positions: &[u8; 64], u: usize, e: usize, keys: &mut [i64])
         requires placed { Placed (instance_in self.now) positions.now u × (e < self.now.run.now.sheet.edges) × ((instance_in self.now).high e ≡ u) }
@@ -69,21 +82,25 @@ impl State<'_> {
 
     // The keys of the positions of `u`: node costs, and edge cells to the nodes below it, by the edges of which `u` is the higher end.
     fn keys_of(&self, positions: &[u8; 64], u: usize) -> [i64; 16]
-        requires { (u < self.now.run.now.sheet.nodes) × Placed (instance_in self.now) positions.now u }
+        requires placed { (u < self.now.run.now.sheet.nodes) × Placed (instance_in self.now) positions.now u }
+        requires made { IsSome self.now.lowers }
         ensures { result ≡ keys_at (instance_in self.now) (costs_by self.now.nodes.now self.now.edges.now) positions.now u }
     {
         let sheet = &self.run.sheet;
         let start = sheet.starts[u];
         let mut keys = [0i64; 16];
         add_cells(&mut keys, &self.nodes[start..start + sheet.degree(u)]);
-        for e in self.run.lowers.row(u) {
+        let lowers = self.lowers.as_ref().unwrap();
+        for e in lowers.row(u) {
             self.add_edge(positions, u, usize::from(*e), &mut keys);
         }
         keys
     }
 
     // Rounds by the node and edge costs: a position for each node, or none where no label is left for one.
+    // Kept: that the index is made is asked for here, in `keys_of` and in the record's own method: the record's kind has just made it.
     pub(crate) fn round_all(&self) -> Option<[u8; 64]>
+        requires { IsSome self.now.lowers }
         ensures { result ≡ rounded_by (round (instance_in self.now) (costs_by self.now.nodes.now self.now.edges.now)) }
     {
         let sheet = &self.run.sheet;

@@ -6,6 +6,7 @@ ghost use Rattle.rules.specs.Calls.{lent_refusal};
 ghost use Rattle.messages.specs.Lent.{lent};
 ghost use Rattle.messages.specs.LabelMessage.{Holders};
 ghost use Rattle.messages.specs.Lows.{Knows};
+ghost use Rattle.messages.specs.Rounded.{Lowers};
 
 use crate::lows::Known;
 use crate::running::Run;
@@ -20,11 +21,13 @@ pub(crate) struct State<'a> {
     pub labels: &'a mut [i64],
     pub edges: &'a mut [i64],
     pub incumbent: &'a mut [u8],
-    // the index of the places by their labels, once it is made
+    // the indexes of the places by their labels and of the edges by their higher ends, each once a record has asked for it
     pub holders: Option<Index>,
+    pub lowers: Option<Index>,
     // the two least costs among which the last message between a node and a label was
     pub known: Option<Known>,
     ghost held: { ForSome holders (Holders run.now.sheet.bytes.now) },
+    ghost lowered: { ForSome lowers (Lowers run.now.sheet.bytes.now) },
     ghost knows: { ForSome known (Knows (instance_of run.now.sheet.bytes.now) nodes.now labels.now) },
     ghost good: { lent_refusal run.now.sheet.bytes.now run.now.limit.most (lent nodes.now labels.now edges.now incumbent.now) ≡ 0 },
 }

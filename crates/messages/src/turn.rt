@@ -19,7 +19,10 @@ impl State<'_> {
         match kind {
             Kind::Edge(flow) => self.edge_record(flow, step)?,
             Kind::Label(flow) => self.label_record(flow, step)?,
-            Kind::Rounding => return self.round_record(step),
+            Kind::Rounding => {
+                self.make_lowers();
+                return self.round_record(step);
+            }
         }
         Ok(0)
     }

@@ -35,7 +35,7 @@ lents : {n n' l l' e e' : List ℤ} {x x' : List ℕ} → n ≡ n' → l ≡ l' 
 lents n l e x = λ t. lent (n t) (l t) (e t) (x t)
 
 pub invariant_of-state : goal.invariant_of-state
-invariant_of-state c = record { held = λ x e. cc e; knows = λ x e. cc e; good = begins (goal.at.invariant_of-state c).In-Ok }
+invariant_of-state c = record { held = λ x e. cc e; lowered = λ x e. cc e; knows = λ x e. cc e; good = begins (goal.at.invariant_of-state c).In-Ok }
 
 pub run_all-requires : goal.run_all-requires
 run_all-requires c =

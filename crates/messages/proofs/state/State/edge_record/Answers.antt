@@ -30,12 +30,12 @@ move_edge-requires c =
     edge_legal (nodes_fit a.self.now) (edges_fit a.self.now) (costs_within a.self.now) a.step.node a.step.index a.step.share (legal (goal.at.move_edge-requires c).Then-legal_edge)
 
 pub invariant_of-self : goal.invariant_of-self
-invariant_of-self c = let s = c.args.self.now in record { held = s.held; knows = λ x e. cc e; good = s.good }
+invariant_of-self c = let s = c.args.self.now in record { held = s.held; lowered = s.lowered; knows = λ x e. cc e; good = s.good }
 
 pub invariant_of-self-then-legal_edge : goal.invariant_of-self-then-legal_edge
 invariant_of-self-then-legal_edge c =
     let a = c.args in
-    record { held = a.self.now.held; knows = λ x e. cc e; good = good_after a.self.now (message (edge_message a.flow)) a.step (edge_left a.self.now a.flow a.step (moved (goal.at.invariant_of-self-then-legal_edge c).After-move_edge)) }
+    record { held = a.self.now.held; lowered = a.self.now.lowered; knows = λ x e. cc e; good = good_after a.self.now (message (edge_message a.flow)) a.step (edge_left a.self.now a.flow a.step (moved (goal.at.invariant_of-self-then-legal_edge c).After-move_edge)) }
 
 pub returns-then-legal_edge-clause-left : goal.returns-then-legal_edge-clause-left
 returns-then-legal_edge-clause-left c =

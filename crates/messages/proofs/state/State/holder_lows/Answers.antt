@@ -1,16 +1,15 @@
 -- `holder_lows` meets its contract: the places of a label are the row of the index.
 use Rattle.std.proofs.Common.{◌≡◌, ℕ, Some, List, get_or, pos, sym, ap, ◌∙◌, subst, arith}
-use Rattle.std.specs.Option.{option_copied}
 use Rattle.rules.specs.Places.{label_places}
 use Rattle.messages.specs.LabelMessage.{Holders}
 use Rattle.messages.specs.Lows.{Lowest}
-use Rattle.messages.proofs.IndexLaws.{row_keyed, row_apart}
+use Rattle.messages.proofs.IndexLaws.{made_is, row_keyed, row_apart}
 use Rattle.messages.proofs.StateLaws.{labels_fit}
 use Rattle.messages.proofs.state.State.holder_lows.Goals as goal
 use Rattle.messages.proofs.state.State.holder_lows.Goals.{After-row}
 
 held : (p : After-row) → Holders p.args.self.now.run.now.sheet.bytes.now p.unwrap-holders.result.now
-held p = p.args.self.now.held p.unwrap-holders.result.now (sym p.as_ref.ensures.value ∙ ap option_copied p.unwrap-holders.ensures)
+held p = made_is p.args.self.now.held p.as_ref.ensures.value p.unwrap-holders.ensures
 
 pub label_lows-requires-clause-inside : goal.label_lows-requires-clause-inside
 label_lows-requires-clause-inside c = λ j h. omega (arith, (row_keyed (held c) c.requires.label c.row.ensures.things h).1, (labels_fit c.args.self.now).size)

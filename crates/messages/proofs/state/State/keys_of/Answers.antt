@@ -9,8 +9,8 @@ use Rattle.instance.specs.Instance.{Instance, first}
 use Rattle.instance.specs.Sheet.{instance_of}
 use Rattle.instance.specs.declared.sheet.Sheet.{Sheet}
 use Rattle.instance.proofs.Sheets as sheet
-use Rattle.messages.specs.Rounded.{added, edge_row}
-use Rattle.messages.proofs.IndexLaws.{row_keyed}
+use Rattle.messages.specs.Rounded.{added, edge_row, Lowers}
+use Rattle.messages.proofs.IndexLaws.{made_is, row_keyed}
 use Rattle.messages.proofs.StateLaws.{nodes_fit, edges_fit}
 use Rattle.messages.proofs.KeyLaws.{keys_over, keys_length, keys_small, keys_first, keys_next, keys_all, row_room}
 use Rattle.messages.proofs.state.State.keys_of.Goals as goal
@@ -37,13 +37,13 @@ module _ (q : Start) where
   u = q.args.u
 
   low : u < 64
-  low = omega (arith, q.requires.0, sheet.nodes_few s)
+  low = omega (arith, q.requires.placed.0, sheet.nodes_few s)
 
   begins : get_or s.starts u 0 ≡ first I u
-  begins = sheet.start_is s q.requires.0
+  begins = sheet.start_is s q.requires.placed.0
 
   inside : first I u + I.degree u ≤ length nodes
-  inside = omega (arith, sheet.row_here s q.requires.0, (nodes_fit q.args.self.now).size, sheet.positions_is s)
+  inside = omega (arith, sheet.row_here s q.requires.placed.0, (nodes_fit q.args.self.now).size, sheet.positions_is s)
 
   short : length nodes ≤ 1_024
   short = omega (arith, sheet.positions_few s, sheet.positions_is s, (nodes_fit q.args.self.now).size)
@@ -84,6 +84,10 @@ module _ (t : At-loop-e) where
       (keys_small (I start) (nodes start) (edges start) (x start) (u start) (nodes_fit start.args.self.now).range (edges_fit start.args.self.now).range sofar
       (omega (arith, length-take t.loop-e.e-index row, t.row-e-items.ensures.few)))
 
+-- the index
+lowered : (t : At-loop-e) → Lowers (s (start t)).bytes.now t.unwrap-lowers.result.now
+lowered t = made_is (start t).args.self.now.lowered t.as_ref.ensures.value t.unwrap-lowers.ensures
+
 -- an edge of the row
 module _ (p : After-from) where
   abbrev head : At-loop-e
@@ -93,7 +97,7 @@ module _ (p : After-from) where
   q = start head
 
   keyed : ((I q).high p.from.result ≡ u q) × (p.from.result < (I q).edge_count)
-  keyed = rw p.from.ensures (row_keyed q.args.self.now.run.now.lowered (low q) head.row-e-items.ensures.things p.loop-e-test.true)
+  keyed = rw p.from.ensures (row_keyed (lowered head) (low q) head.row-e-items.ensures.things p.loop-e-test.true)
 
   exists : p.from.result < (s q).edges
   exists = omega (arith, keyed.1, sheet.edges_is (s q))
@@ -129,7 +133,7 @@ loop-e-init c =
 
 pub add_edge-requires-clause-placed : goal.add_edge-requires-clause-placed
 add_edge-requires-clause-placed c =
-    let p = (goal.at.add_edge-requires-clause-placed c).After-from in (c.requires.1, exists p, (keyed p).0)
+    let p = (goal.at.add_edge-requires-clause-placed c).After-from in (c.requires.placed.1, exists p, (keyed p).0)
 
 pub add_edge-requires-clause-keys_len : goal.add_edge-requires-clause-keys_len
 add_edge-requires-clause-keys_len c =
@@ -140,12 +144,12 @@ loop-e-preserved c =
     let p = (goal.at.loop-e-preserved c).After-from in let h = head p in let r = q p in
     let e = p.from.result in
     c.add_edge.ensures ∙ ap (λ (k : List ℤ). added k (edge_row (I r) (edges r) (x r) e)) h.loop-e.invariant
-    ∙ keys_next (I r) (nodes r) (edges r) (x r) (u r) (sofar h) e (keyed p).0 (row_room (s r) (edges_fit r.args.self.now) (x r) r.requires.1 (exists p) (keyed p).0)
+    ∙ keys_next (I r) (nodes r) (edges r) (x r) (u r) (sofar h) e (keyed p).0 (row_room (s r) (edges_fit r.args.self.now) (x r) r.requires.placed.1 (exists p) (keyed p).0)
     ∙ ap (keys_over (I r) (nodes r) (edges r) (x r) (u r)) (ap (λ (d : ℕ). sofar h ++ d ∷ []) p.from.ensures ∙ sym (take_more (row h) h.loop-e.e-index 0 p.loop-e-test.true))
 
 pub returns : goal.returns
 returns c =
     let h = (goal.at.returns c).At-loop-e in let r = start h in
     c.loop-e.invariant
-    ∙ ap (keys_over (I r) (nodes r) (edges r) (x r) (u r)) (take_all c.loop-e.e-index (row h) c.loop-e-test.false ∙ c.row-e-items.ensures.things ∙ r.args.self.now.run.now.lowered.rows (u r) (low r))
+    ∙ ap (keys_over (I r) (nodes r) (edges r) (x r) (u r)) (take_all c.loop-e.e-index (row h) c.loop-e-test.false ∙ c.row-e-items.ensures.things ∙ (lowered h).rows (u r) (low r))
     ∙ keys_all (I r) (nodes r) (edges r) (x r) (u r)

@@ -198,12 +198,12 @@ module _ (p : After-shift_label) where
       settled_as (instance_of run.now.sheet.bytes.now) run.now.limit.most (p.lows-lows.ensures.same.1 j) (message (label_message p.args.flow)) (r at).node (r at).index (r at).share)
 
 pub invariant_of-self : goal.invariant_of-self
-invariant_of-self c = let l = now (old (by c)) in record { held = l.held; knows = λ x e. cc e; good = l.good }
+invariant_of-self c = let l = now (old (by c)) in record { held = l.held; lowered = l.lowered; knows = λ x e. cc e; good = l.good }
 
 pub invariant_of-self-in-Break-1 : goal.invariant_of-self-in-Break-1
 invariant_of-self-in-Break-1 c =
     let p = (goal.at.invariant_of-self-in-Break-1 c).After-shift_label in
-    let l = now (at p) in record { held = l.held; knows = λ x e. cc e; good = good_after l (message (label_message c.args.flow)) (r (at p)) (left p) }
+    let l = now (at p) in record { held = l.held; lowered = l.lowered; knows = λ x e. cc e; good = good_after l (message (label_message c.args.flow)) (r (at p)) (left p) }
 
 pub returns-in_err-shift_label-clause-left : goal.returns-in_err-shift_label-clause-left
 returns-in_err-shift_label-clause-left c =
@@ -256,6 +256,7 @@ invariant_of-self-2 c =
     let found = c.moved-lows.ensures ∙ ap₂ (lows_moved c.lows-lows.result) read_cost apart in
     record {
       held = x.held;
+      lowered = x.lowered;
       knows = λ k e. let q : record { flow = c.args.flow; of = c.either-of.result; lows = c.moved-lows.result } ≡ k = cc e in
           subst (Knows (I (l o)) c.shift_label.new.nodes c.shift_label.new.labels) q
           (subst (LowestFor (I (l o)) c.shift_label.new.nodes c.shift_label.new.labels c.args.flow c.either-of.result) (sym found) (known o));

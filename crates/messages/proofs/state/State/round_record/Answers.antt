@@ -74,7 +74,7 @@ pub adopt-requires : goal.adopt-requires
 adopt-requires c = kept_fits c.args.self.now
 
 pub invariant_of-self : goal.invariant_of-self
-invariant_of-self c = record { held = c.args.self.now.held; knows = c.args.self.now.knows; good = good_after c.args.self.now rounding c.args.step (rounding_left c.args.self.now c.args.step (adopted (goal.at.invariant_of-self c).After-adopt)) }
+invariant_of-self c = record { held = c.args.self.now.held; lowered = c.args.self.now.lowered; knows = c.args.self.now.knows; good = good_after c.args.self.now rounding c.args.step (rounding_left c.args.self.now c.args.step (adopted (goal.at.invariant_of-self c).After-adopt)) }
 
 pub returns-then-not-names_nothing-clause-left : goal.returns-then-not-names_nothing-clause-left
 returns-then-not-names_nothing-clause-left c =
