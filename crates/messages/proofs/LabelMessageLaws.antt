@@ -1,17 +1,15 @@
 -- Kinds 3 and 4: what a place gives to its label or takes from it, that it fits, and the one amount moved.
 -- Assumes nothing.
-use Rattle.std.proofs.Common.{◌≡◌, ℕ, zero, suc, ◌+◌, ◌^◌, ◌<◌, ◌≤◌, true, false, ◌&&◌, List, [], ◌∷◌, map, length, get_or, set, ℤ, pos, ◌+ℤ◌, ◌-ℤ◌, nat_abs, sym, refl, ap₂, arith}
+use Rattle.std.proofs.Common.{◌≡◌, ℕ, zero, suc, ◌+◌, ◌^◌, ◌<◌, ◌≤◌, true, false, ◌&&◌, List, [], ◌∷◌, map, length, get_or, set, ℤ, pos, ◌+ℤ◌, ◌-ℤ◌, nat_abs, sym, refl, arith}
 use Rattle.integers.specs.Checks.{within}
-use Rattle.integers.specs.Least.{least_of, without}
+use Rattle.integers.specs.Least.{least_of}
 use Rattle.integers.specs.Share.{share, amount}
 use Rattle.integers.specs.Sum.{Within}
-use Rattle.integers.specs.Rows.{part}
 use Rattle.integers.specs.Places.{others}
 use Rattle.integers.proofs.Parts.{sub, abs}
 use Rattle.integers.proofs.Places.{if-true, if-false, and_both}
 use Rattle.integers.proofs.Share.{abs_le, amount_toward}
-use Rattle.integers.proofs.Ranges.{others-part}
-use Rattle.integers.proofs.Rows.{get_d_part, within_map}
+use Rattle.integers.proofs.Rows.{within_map}
 use Rattle.instance.specs.Instance.{Instance, first, node_cells}
 use Rattle.instance.proofs.LaidOut.{row_inside}
 use Rattle.rules.specs.Places.{node_places, label_places}
@@ -34,13 +32,6 @@ module _ (I : Instance) {u : ℕ} (node : u < I.node_count) where
     pub place_in : (l : List ℤ) → length l ≡ node_cells I → first I u + k < length l
     place_in l size = omega (arith, row_in l size, position)
 
-    pub node_given : (share : ℕ) (l : List ℤ) → length l ≡ node_cells I
-        → amount (get_or (part l (first I u) (I.degree u)) k (pos 0)) (without (part l (first I u) (I.degree u)) k) share ≡ node_amount I l u (first I u + k) share
-    unfolding node_places
-    node_given share l size =
-        ap₂ (λ (x : ℤ) (rivals : List ℤ). amount x rivals share) (get_d_part l (first I u) (I.degree u) k (pos 0) position)
-        (sym (others-part l (pos 0) (first I u) (I.degree u) k (row_in l size)))
-
 module _ (I : Instance) (l : List ℤ) (h : Within cost_limit l) where
   -- the costs at some places
   abbrev costs : List ℕ → List ℤ
@@ -61,10 +52,6 @@ module _ (I : Instance) (l : List ℤ) (h : Within cost_limit l) where
 
   pub label_fits : (i r : ℕ) → nat_abs (label_amount I l i r) ≤ 2 ^ 41
   label_fits i r = amount_fits (get_or l i (pos 0)) (rivals i) r (h i) (rivals_bounded i)
-
-  pub rival_within : (i : ℕ) → nat_abs (label_rival I l i) ≤ cost_limit
-  unfolding least_of
-  rival_within i = least_of_within cost_limit (rivals i) (rivals_bounded i)
 
 -- the label's amount is a share of the distance from the rival
 pub label_shared : (I : Instance) (l : List ℤ) (i r : ℕ) → share (get_or l i (pos 0) -ℤ label_rival I l i) r ≡ label_amount I l i r

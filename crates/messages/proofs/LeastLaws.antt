@@ -1,6 +1,6 @@
 -- The least of a row as four running minima side by side find it, and without an element that is above it.
 -- Assumes nothing.
-use Rattle.std.proofs.Common.{◌≡◌, ℕ, zero, suc, ◌<◌, List, [], ◌∷◌, length, get_or, drop, ℤ, pos, ◌<ℤ◌, sym, refl, ap, ◌∙◌, ap₂, not-suc-le-zero, arith, get_or-drop}
+use Rattle.std.proofs.Common.{◌≡◌, ℕ, zero, suc, ◌<◌, List, [], ◌∷◌, length, get_or, drop, ℤ, pos, ◌<ℤ◌, sym, refl, ap, ◌∙◌, ap₂, not-suc-le-zero, arith}
 use Rattle.integers.specs.Least.{min_ℤ, least_from, least_of, without}
 use Rattle.integers.proofs.Order.{le_refl, min_ind, min_eq_left, min_comm}
 use Rattle.integers.proofs.Parts.{linear}
@@ -47,15 +47,6 @@ pub least_whole : (l : List ℤ) (d : ℤ) → 0 < length l → least_from (get_
 unfolding least_from least_of
 least_whole [] d h = absurd (not-suc-le-zero h)
 least_whole (x ∷ l) d h = sym (least_min x x l) ∙ ap (λ (z : ℤ). least_from z l) (min_self x)
-
--- the first of all but one
-pub first_but_first : (l : List ℤ) (k : ℕ) (d : ℤ) → k ≡ 0 → get_or l 1 d ≡ get_or (without l k) 0 d
-first_but_first l k d e = sym (ap (λ (i : ℕ). get_or (without l i) 0 d) e ∙ get_or-drop 1 l 0 d)
-
-pub first_but_later : (l : List ℤ) (k : ℕ) (d : ℤ) → (k ≡ 0 → ⊥) → get_or l 0 d ≡ get_or (without l k) 0 d
-first_but_later l zero d h = absurd (h refl)
-first_but_later [] (suc k) d h = refl
-first_but_later (x ∷ l) (suc k) d h = refl
 
 -- one element first, then the others
 pub least_aside : (b : ℤ) (l : List ℤ) (i : ℕ) (d : ℤ) → i < length l → min_ℤ (get_or l i d) (least_from b (without l i)) ≡ least_from b l

@@ -1,6 +1,6 @@
 -- The two least of some costs stay the two least with one cost more, and once one of the costs has moved toward the least beside it.
 -- Assumes nothing.
-use Rattle.std.proofs.Common.{◌≡◌, ℕ, suc, length, get_or, take, ◌+◌, ◌-◌, ◌≤◌, ◌<◌, not, List, [], ◌∷◌, ◌++◌, map, ℤ, pos, ◌-ℤ◌, ◌≤ℤ◌, ◌<ℤ◌, int_lt, sym, refl, ap, ◌∙◌, subst, arith, eqb, eqb-true, eq-eqb, ne_eqb}
+use Rattle.std.proofs.Common.{◌≡◌, ℕ, suc, length, get_or, take, ◌+◌, ◌-◌, ◌≤◌, ◌<◌, not, List, [], ◌∷◌, ◌++◌, map, ℤ, ◌-ℤ◌, ◌≤ℤ◌, ◌<ℤ◌, int_lt, sym, refl, ap, ◌∙◌, subst, arith, eqb, eqb-true, eq-eqb, ne_eqb}
 use Rattle.std.proofs.lemmas.Bool.{eqb-false}
 use mathlib.Core.List.{map-append, append-nil}
 use mathlib.Core.List.{Memᴰ as Mem}
@@ -13,7 +13,7 @@ use Rattle.integers.specs.Places.{range, select, others}
 use Rattle.integers.proofs.Order.{min_ind, le_min, min_le, min_eq_left, min_eq_right}
 use Rattle.integers.proofs.Least.{least_min, least_swap, least_append}
 use Rattle.integers.proofs.Places.{by-test, by_cond, map-ext, range_mem, mem_others, others_mem, least_mem, least_apart}
-use Rattle.integers.proofs.Ranges.{range_last, select_append, select_all, select_none, select_comm}
+use Rattle.integers.proofs.Ranges.{range_last, select_append, select_all, select_comm}
 use Rattle.integers.proofs.Share.{Toward}
 use Rattle.integers.proofs.Parts.{linear, sub, parts, apart}
 use Rattle.messages.specs.declared.lows.Lows.{Lows}
@@ -131,7 +131,7 @@ module _ {start : ℤ} {f : ℕ → ℤ} {places : List ℕ} {l : Lows} (low : L
           order = le_min h low.order;
           least = sym (whole ∙ min_eq_right h);
           beside = besides k (λ i. above i h)
-          (beside_ind k (f x) (λ z. l.least ≡ z) (λ _. refl) (λ g. sym (min_eq_left (omega (linear, low.order)) ∙ omega linear)));
+              (beside_ind k (f x) (λ z. l.least ≡ z) (λ _. refl) (λ g. sym (min_eq_left (omega (linear, low.order)) ∙ omega linear)));
         })
 
   -- ---- a cost that moves

@@ -1,11 +1,11 @@
 -- A message between a node and a label by the two least costs that are known: the cost is one of theirs, what it gives is the rules' amount, and they are known afterwards.
 -- Assumes nothing.
-use Rattle.std.proofs.Common.{◌≡◌, ℕ, zero, suc, ◌+◌, ◌^◌, ◌<◌, ◌≤◌, Bool, true, false, cond, ◌&&◌, List, [], ◌∷◌, map, length, get_or, set, ℤ, pos, ◌+ℤ◌, ◌-ℤ◌, neg_ℤ, nat_abs, ◌≤ℤ◌, ◌<ℤ◌, int_lt, sym, refl, ap, ◌∙◌, subst, ap₂, arith, eqb, eq-eqb}
+use Rattle.std.proofs.Common.{◌≡◌, ℕ, ◌+◌, ◌^◌, ◌<◌, ◌≤◌, cond, ◌&&◌, List, [], ◌∷◌, map, length, get_or, ℤ, pos, ◌+ℤ◌, ◌-ℤ◌, neg_ℤ, nat_abs, ◌<ℤ◌, int_lt, sym, refl, ap, ◌∙◌, subst, arith, eqb, eq-eqb}
 use Rattle.std.proofs.lemmas.List.{get_or-set_same, get_or-set_other}
 use mathlib.Core.List.{Memᴰ as Mem}
 use Rattle.integers.specs.Checks.{within}
 use Rattle.integers.specs.Least.{least_from, least_of}
-use Rattle.integers.specs.Places.{range, select, others}
+use Rattle.integers.specs.Places.{others}
 use Rattle.integers.specs.Rows.{add_at}
 use Rattle.integers.specs.Share.{share, amount}
 use Rattle.integers.specs.Sum.{Within}

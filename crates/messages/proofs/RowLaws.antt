@@ -127,11 +127,6 @@ unfolding amount
 amount_none x [] r e = refl
 amount_none x (y ∷ l) r e = absurd (omega arith)
 
-pub amount_some : (x : ℤ) (l : List ℤ) (r : ℕ) → 0 < length l → amount x l r ≡ share (x -ℤ least_of l) r
-unfolding amount
-amount_some x [] r h = absurd (not-suc-le-zero h)
-amount_some x (y ∷ l) r h = refl
-
 -- 0 less an amount
 pub from_zero : (p : ℤ) → pos 0 -ℤ p ≡ neg_ℤ p
 from_zero p = omega (linear, sub (pos 0) p, neg p)

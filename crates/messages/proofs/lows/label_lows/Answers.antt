@@ -1,7 +1,6 @@
 -- `label_lows` meets its contract: they are the two least of 0 and the costs gone through.
-use Rattle.std.proofs.Common.{◌≡◌, ℕ, [], ◌+◌, get_or, take, ℤ, pos, List, sym, ap, ◌∙◌, subst, arith, to_z-of_z, w64, rules, take_all}
+use Rattle.std.proofs.Common.{ℕ, [], ◌+◌, get_or, take, ℤ, pos, List, sym, ap, ◌∙◌, subst, to_z-of_z, w64, rules, take_all}
 use Rattle.integers.proofs.Parts.{linear}
-use Rattle.messages.specs.EdgeMessage.{unbounded}
 use Rattle.messages.specs.Lows.{Lowest, lows_with}
 use Rattle.messages.proofs.LowLaws.{lowest_none, lowest_take}
 use Rattle.messages.proofs.lows.label_lows.Goals as goal

@@ -1,9 +1,8 @@
 -- `node_lows` meets its contract: they are the two least of the costs gone through.
-use Rattle.std.proofs.Common.{◌≡◌, ℕ, [], ◌+◌, ◌-◌, get_or, ℤ, pos, List, sym, ap, ◌∙◌, subst, arith, to_z-of_z, w64, rules}
+use Rattle.std.proofs.Common.{◌≡◌, ℕ, [], ◌+◌, ◌-◌, get_or, ℤ, pos, sym, ap, ◌∙◌, subst, arith, to_z-of_z, w64, rules}
 use Rattle.integers.specs.Places.{range}
 use Rattle.messages.specs.EdgeMessage.{unbounded}
-use Rattle.messages.specs.declared.lows.Lows.{Lows}
-use Rattle.messages.specs.Lows.{Lowest, lows, lows_with}
+use Rattle.messages.specs.Lows.{Lowest, lows_with}
 use Rattle.messages.proofs.LowLaws.{lowest_none, lowest_range}
 use Rattle.integers.proofs.Order.{le_refl}
 use Rattle.messages.proofs.lows.node_lows.Goals as goal

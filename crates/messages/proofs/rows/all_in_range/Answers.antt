@@ -1,5 +1,5 @@
 -- `all_in_range` meets its contract: what lies within half the limit lies within it.
-use Rattle.std.proofs.Common.{ℕ, ◌/◌, get_or, pos, nat_abs, ◌≤◌, sym, ◌∙◌, arith}
+use Rattle.std.proofs.Common.{◌/◌, get_or, pos, nat_abs, ◌≤◌, sym, ◌∙◌, arith}
 use Rattle.integers.specs.Checks.{within}
 use Rattle.integers.proofs.Checks.{le_within}
 use Rattle.messages.proofs.RowLaws.{every_below}

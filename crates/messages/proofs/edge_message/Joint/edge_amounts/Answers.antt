@@ -1,18 +1,15 @@
 -- `edge_amounts` meets its contract: the least of each position, the least of these, and what each gives.
-use Rattle.std.proofs.Common.{◌≡◌, ℕ, ◌^◌, ◌<◌, ◌≤◌, Bool, not, ◌&&◌, List, ◌++◌, length, get_or, take, drop, ℤ, pos, sym, refl, ap, ◌∙◌, subst, arith, length-take-le, get_or-take, w64, to_z, of_z}
+use Rattle.std.proofs.Common.{◌≡◌, ℕ, ◌<◌, ◌≤◌, Bool, List, ◌++◌, length, get_or, take, drop, ℤ, pos, ap, ◌∙◌, arith, length-take-le, get_or-take, w64, to_z, of_z}
 use Rattle.integers.specs.Least.{least_of}
 use Rattle.integers.specs.Sum.{Within}
-use Rattle.integers.specs.Places.{every}
-use Rattle.integers.specs.Checks.{within}
 use Rattle.integers.proofs.Bits.{answer}
 use Rattle.rules.specs.Calls.{cost_limit}
 use Rattle.messages.specs.declared.edge_message.Joint.{Joint}
-use Rattle.messages.specs.EdgeMessage.{by_rows, usable_cells, edge_amounts, Ends, over, turned_least, moved_row}
-use Rattle.messages.specs.Joints.{least_in, cells_with, fit_in}
+use Rattle.messages.specs.EdgeMessage.{by_rows, usable_cells, edge_amounts, Ends, over, turned_least}
+use Rattle.messages.specs.Joints.{least_in}
 use Rattle.messages.proofs.OverLaws.{length_over, over_at, over_front}
-use Rattle.messages.proofs.EdgeLaws.{zeros, edge_within}
+use Rattle.messages.proofs.EdgeLaws.{zeros}
 use Rattle.messages.proofs.UsableLaws.{own_few, low_within, position_within, edge_least_lem, edge_is}
-use Rattle.messages.proofs.FallLaws.{cells_fall}
 use Rattle.messages.proofs.edge_message.Joint.edge_amounts.Goals as goal
 use Rattle.messages.proofs.edge_message.Joint.edge_amounts.Goals.{After-leasts-passed, After-least_of-low, After-turn_all}
 

@@ -1,18 +1,12 @@
 -- `node_amounts` meets its contract. The loop's invariant: the first k places hold what those positions give, and the others 0.
-use Rattle.std.proofs.Common.{◌≡◌, ◌^◌, Bool, ◌&&◌, ap, List, get_or, ℤ, pos, ◌-ℤ◌, sym, ◌∙◌, subst, ap₂, w64, to_z, of_z, arith, to_z-of_z, rules}
+use Rattle.std.proofs.Common.{◌≡◌, get_or, ℤ, pos, ◌-ℤ◌, ◌∙◌, ap₂, w64, to_z, of_z, arith, to_z-of_z, rules}
 use Rattle.integers.specs.Least.{least_of}
 use Rattle.integers.specs.Share.{share}
-use Rattle.integers.specs.Sum.{Within}
-use Rattle.integers.specs.Places.{every}
-use Rattle.integers.specs.Checks.{within}
 use Rattle.integers.proofs.Bits.{answer}
 use Rattle.rules.specs.Calls.{cost_limit}
-use Rattle.messages.specs.EdgeMessage.{node_amounts}
-use Rattle.messages.specs.Joints.{cells_with}
-use Rattle.messages.proofs.FallLaws.{row_falls}
 use Rattle.messages.proofs.RowLaws.{least_of_within}
 use Rattle.messages.proofs.OverLaws.{written_start, written_more, written_all}
-use Rattle.messages.proofs.EdgeLaws.{node_is, node_within}
+use Rattle.messages.proofs.EdgeLaws.{node_is}
 use Rattle.messages.proofs.edge_message.Joint.node_amounts.Goals as goal
 use Rattle.messages.proofs.edge_message.Joint.node_amounts.Goals.{After-least_of-low, After-loop-k}
 

@@ -1,5 +1,5 @@
 -- `holder_lows` meets its contract: the places of a label are the row of the index.
-use Rattle.std.proofs.Common.{◌≡◌, ℕ, Some, List, get_or, pos, sym, ap, ◌∙◌, subst, arith}
+use Rattle.std.proofs.Common.{ℕ, List, get_or, pos, ◌∙◌, subst, arith}
 use Rattle.rules.specs.Places.{label_places}
 use Rattle.messages.specs.LabelMessage.{Holders}
 use Rattle.messages.specs.Lows.{Lowest}

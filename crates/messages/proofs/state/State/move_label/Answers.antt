@@ -1,5 +1,5 @@
 -- `move_label` meets its contract: what the cost gives is the rules' amount, and the two least are known after it has moved.
-use Rattle.std.proofs.Common.{◌≡◌, ℕ, ◌+◌, ◌^◌, ◌<◌, ◌≤◌, true, cond, List, length, ℤ, pos, ◌-ℤ◌, neg_ℤ, nat_abs, sym, refl, ap, ◌∙◌, subst, ap₂, arith, to_z-of_z, w64, to_z, of_z, SFits}
+use Rattle.std.proofs.Common.{◌≡◌, ℕ, ◌+◌, ◌^◌, ◌<◌, ◌≤◌, true, cond, length, ℤ, ◌-ℤ◌, neg_ℤ, nat_abs, sym, ap, ◌∙◌, subst, ap₂, arith, to_z-of_z, w64, to_z, of_z, SFits}
 use Rattle.integers.proofs.Parts.{linear, sub, abs}
 use mathlib.Core.Path.{transport}
 use Rattle.integers.specs.Rows.{add_at}
@@ -11,7 +11,6 @@ use Rattle.instance.specs.Sheet.{instance_of}
 use Rattle.instance.proofs.LaidOut.{label_known_lem}
 use Rattle.instance.proofs.Sheets as sheet
 use Rattle.instance.proofs.Told.{handed}
-use Rattle.rules.specs.Costs.{Buffers}
 use Rattle.rules.specs.Run.{message, legal_position}
 use Rattle.messages.specs.declared.records.Flow.{Flow}
 use Rattle.messages.specs.declared.records.Flow.TheVariants.{FromNode, ToNode}
