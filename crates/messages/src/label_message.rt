@@ -26,7 +26,7 @@ use instance::Refusal;
 // Moves `p` from the node cost to the label cost at the place `i`, where both stay within the limit.
 // Kept: over the two buffers, which it asks to be within the limit: a method would have to show what a `State` promises by itself, which the record's own method has from the law of all records.
 #[tactic(auto, using(crate::proofs::LabelMessageLaws::moved_both, crate::proofs::LabelMessageLaws::moved_not, integers::proofs::Bits::same))]
-pub(crate) fn shift_label(
+fn shift_label(
     nodes: &mut [i64],
     labels: &mut [i64],
     i: usize,
@@ -69,6 +69,7 @@ impl State<'_> {
         requires made { IsSome self.now.holders }
         ensures { Lowest (pos 0) (λ i. slice_index_or self.now.labels.now i (pos 0)) (label_places (instance_in self.now) l) result }
     {
+        // Kept: it does not fail, as that the index is made is asked for.
         let holders = self.holders.as_ref().unwrap();
         label_lows(self.labels, holders.row(l))
     }
@@ -138,7 +139,7 @@ impl State<'_> {
         let amount = lows.given(cost, Share { parts: step.share });
         let limit = self.run.limit;
         let p = flow.turn(amount);
-        // Kept: a record that is refused leaves the costs as they were, and what is known too; but a run ends there.
+        // Kept: until both costs have moved nothing is known of them. A record that is refused moves none, but a run ends with it.
         self.known = None;
         shift_label(self.nodes, self.labels, place, p, limit)?;
         let lows = lows.moved(cost, cost - amount);

@@ -46,7 +46,7 @@ impl Lows {
 
     // The least beside one of the costs.
     #[tactic(auto, unfolding(crate::specs::Lows::low_beside))]
-    pub(crate) fn beside(self, cost: i64) -> i64
+    fn beside(self, cost: i64) -> i64
         ensures { result ≡ low_beside self cost }
     {
         if self.least < cost {

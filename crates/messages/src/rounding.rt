@@ -90,6 +90,7 @@ impl State<'_> {
         let start = sheet.starts[u];
         let mut keys = [0i64; 16];
         add_cells(&mut keys, &self.nodes[start..start + sheet.degree(u)]);
+        // Kept: it does not fail, as that the index is made is asked for.
         let lowers = self.lowers.as_ref().unwrap();
         for e in lowers.row(u) {
             self.add_edge(positions, u, usize::from(*e), &mut keys);
