@@ -1,5 +1,5 @@
 // Messages between a node and a label: kinds 3 and 4.
-ghost use Rattle.std.specs.Prelude.{◌≡◌, ℕ, ◌+◌, ◌^◌, ◌<◌, ◌≤◌, true, length, pos, slice_index_or, unsigned_abs};
+ghost use Rattle.std.specs.Prelude.{◌≡◌, ◌+◌, ◌^◌, ◌<◌, ◌≤◌, true, length, pos, slice_index_or, unsigned_abs};
 ghost use Rattle.std.specs.Option.{IsSome};
 ghost use Rattle.integers.specs.Sum.{Within};
 ghost use Rattle.instance.specs.Instance.{first, node_cells};

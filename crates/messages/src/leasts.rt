@@ -1,5 +1,5 @@
 // The least usable cell of each position of an end: the least of all its cells, four positions at a time, and where an unusable one is as low, the least of the others. Document 02, wish 2.
-ghost use Rattle.std.specs.Prelude.{◌≡◌, ℕ, ◌+◌, ◌*◌, ◌/◌, ◌<◌, ◌≤◌, false, IfSome, length, pos, replicate};
+ghost use Rattle.std.specs.Prelude.{◌≡◌, ◌+◌, ◌*◌, ◌/◌, ◌<◌, ◌≤◌, false, IfSome, length, pos, replicate};
 ghost use Rattle.integers.specs.Least.{least_from};
 ghost use Rattle.integers.specs.Places.{tabulate};
 ghost use Rattle.messages.specs.EdgeMessage.{left_of, over, unbounded};

@@ -1,5 +1,5 @@
 // A record of a list, and the messages: whether what each names exists, and then the move.
-ghost use Rattle.std.specs.Prelude.{◌≡◌, ◌+◌, ◌^◌, ◌<◌, ◌≤◌, ◌==◌, ◌&&◌, ◌||◌, cond, length, nat_lt, neg_ℤ, unsigned_abs};
+ghost use Rattle.std.specs.Prelude.{◌≡◌, ◌+◌, ◌^◌, ◌<◌, ◌≤◌, ◌==◌, ◌&&◌, ◌||◌, cond, nat_lt, neg_ℤ, unsigned_abs};
 ghost use Rattle.instance.specs.Refusal.{refused_in};
 ghost use Rattle.instance.specs.Instance.{exclusive, first};
 ghost use Rattle.instance.specs.Sheet.{instance_of};

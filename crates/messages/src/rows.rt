@@ -1,7 +1,7 @@
 // Rows of costs: the least of a row, a share of a distance, and whether costs lie within the limit.
 ghost use Rattle.std.specs.Prelude.{◌≡◌, ◌*◌, ◌^◌, ◌/◌, ◌<◌, ◌≤◌, true, length, pos, ◌-ℤ◌, nat_lt, slice_index_or, unsigned_abs};
-ghost use Rattle.integers.specs.Least.{min_ℤ, least_from, least_of, without};
-ghost use Rattle.integers.specs.Share.{nearest, share, amount};
+ghost use Rattle.integers.specs.Least.{min_ℤ, least_from, least_of};
+ghost use Rattle.integers.specs.Share.{nearest, share};
 ghost use Rattle.integers.specs.Sum.{Within};
 ghost use Rattle.integers.specs.Places.{every};
 ghost use Rattle.integers.specs.Checks.{within};
