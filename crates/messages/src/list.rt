@@ -82,9 +82,9 @@ pub fn run(
                 labels,
                 edges,
                 incumbent,
+                known: None,
                 holders: None,
                 lowers: None,
-                known: None,
             };
             state.run_all(records)
         }

@@ -21,11 +21,11 @@ pub(crate) struct State<'a> {
     pub labels: &'a mut [i64],
     pub edges: &'a mut [i64],
     pub incumbent: &'a mut [u8],
+    // the two least costs among which the last message between a node and a label was
+    pub known: Option<Known>,
     // the indexes of the places by their labels and of the edges by their higher ends, each once a record has asked for it
     pub holders: Option<Index>,
     pub lowers: Option<Index>,
-    // the two least costs among which the last message between a node and a label was
-    pub known: Option<Known>,
     ghost held: { ForSome holders (Holders run.now.sheet.bytes.now) },
     ghost lowered: { ForSome lowers (Lowers run.now.sheet.bytes.now) },
     ghost knows: { ForSome known (Knows (instance_of run.now.sheet.bytes.now) nodes.now labels.now) },
