@@ -2,4 +2,5 @@
 pub mod Placing
 pub mod Words
 pub mod Labels
+pub mod Priced
 pub mod Sample

@@ -36,6 +36,10 @@ rows_of n sets own = record {
 abbrev pub All : ℕ → List ℕ → List Bool → (ℕ → ℕ) → Type 0
 All n sets own p = Placed (rows_of n sets own) (Node (rows_of n sets own)) p
 
+-- all nodes below n placed, and each label taken that is not of `idle`
+abbrev pub Full : ℕ → List ℕ → List Bool → ℕ → (ℕ → ℕ) → Type 0
+Full n sets own idle p = All n sets own p × ((l : ℕ) → l < 64 → bit idle l ≡ false → (u : ℕ) × (u < n) × (p u ≡ l))
+
 -- ---- the words of a sheet
 
 -- the labels below l, and all for 255
