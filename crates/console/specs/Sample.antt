@@ -14,7 +14,8 @@ use Rattle.rules.specs.Costs.{in_range, none_kept, opened, node_least, edge_leas
 use Rattle.rules.specs.Messages.{to_label, to_edge, deltas, filled}
 use Rattle.rules.specs.Rounding.{best_from, best, free, key, choice, round_below, adopt}
 use Rattle.rules.specs.Run.{proceed, rounded, kind_of, records, legal_share, legal_edge, legal_position, legal_message, checked, effect, run, run_list}
-use Rattle.rules.specs.Calls.{lengths_ok, is_matching, incumbent_ok, lent_checks, lent_refusal, run_refusal, run_of, told, report_of}
+use Rattle.rules.specs.Matchings.{is_matching}
+use Rattle.rules.specs.Calls.{lengths_ok, incumbent_ok, lent_checks, lent_refusal, run_refusal, run_of, told, report_of}
 use Rattle.rules.specs.Sample.{sample_records, both, clashing}
 use Rattle.console.specs.Ascii.{ascii}
 use Rattle.console.specs.Decimal.{digits_in, decimal, signed}

@@ -12,8 +12,9 @@ use Rattle.instance.specs.Instance.{Instance, exclusive, cell}
 use Rattle.instance.specs.Sheet.{instance_of}
 use Rattle.rules.specs.Costs.{Buffers, none_kept, prices, position, chosen, chosen_cell, paid, cost_of, price_of, Labelling}
 use Rattle.rules.specs.Rounding.{free, adopt}
-use Rattle.rules.specs.Calls.{is_matching, incumbent_ok}
-use Rattle.rules.proofs.Calls.{is_matching_lem}
+use Rattle.rules.specs.Matchings.{is_matching}
+use Rattle.rules.specs.Calls.{incumbent_ok}
+use Rattle.rules.proofs.Matchings.{is_matching_lem}
 use Rattle.messages.specs.Incumbent.{replaces, adopted_of}
 use Rattle.instance.specs.declared.sheet.Sheet.{Sheet}
 use Rattle.instance.proofs.Sheets as sheet

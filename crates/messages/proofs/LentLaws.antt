@@ -10,7 +10,8 @@ use Rattle.instance.specs.Instance.{Instance}
 use Rattle.instance.specs.Sheet.{instance_of, checks, refusal_of}
 use Rattle.instance.proofs.Shown.{checks-numbered}
 use Rattle.rules.specs.Costs.{Buffers, in_range}
-use Rattle.rules.specs.Calls.{lengths_ok, is_matching, incumbent_ok, lent_checks, lent_refusal, cost_limit}
+use Rattle.rules.specs.Matchings.{is_matching}
+use Rattle.rules.specs.Calls.{lengths_ok, incumbent_ok, lent_checks, lent_refusal, cost_limit}
 use Rattle.instance.specs.declared.sheet.Sheet.{Sheet}
 use Rattle.instance.proofs.Sheets.{nodes_is, positions_is, cells_is}
 use Rattle.messages.specs.Lent.{NodeFits, EdgeFits}

@@ -20,7 +20,8 @@ use Rattle.rules.specs.Run.{Kind, message, rounding, unknown, kind_of, Outcome, 
 use Rattle.rules.specs.Calls.{cost_limit, incumbent_ok, lent_refusal}
 use Rattle.rules.proofs.Bridge.{moved_label, touched_label}
 use Rattle.rules.proofs.Run.{Done, Ranged, legal_edge_is, legal_position_is, effect_later, effect_range}
-use Rattle.rules.proofs.Calls.{is_matching_lem, incumbent_ok_lem, lengths_ok_lem}
+use Rattle.rules.proofs.Matchings.{is_matching_lem}
+use Rattle.rules.proofs.Calls.{incumbent_ok_lem, lengths_ok_lem}
 use Rattle.messages.specs.Lent.{lent, NodeFits, EdgeFits}
 use Rattle.messages.specs.Step.{Settled, settle, settled, settled_by}
 use Rattle.std.specs.Prelude.{Err, slice_index}

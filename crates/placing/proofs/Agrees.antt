@@ -8,8 +8,7 @@ use Rattle.instance.specs.Instance.{exclusive, usable, first, table_size, table}
 use Rattle.instance.specs.Sheet.{instance_of, rises, mark_at, short_enough, marked, counts_ok, degrees_fit, degrees_ok, ends_fit, ends_ok, cells_ok, length_ok, labels_ok, prices_ok, usable_ok, checks}
 use Rattle.rules.specs.Costs.{chosen}
 use Rattle.rules.specs.Rounding.{free}
-use Rattle.rules.specs.Calls.{is_matching}
-use Rattle.rules.specs.Matchings.{passing, joined, labellings_from, labellings, matchings, smallest}
+use Rattle.rules.specs.Matchings.{is_matching, passing, joined, labellings_from, labellings, matchings, smallest}
 use Rattle.assignment.specs.Rows.{count, some}
 use Rattle.placing.specs.Placing.{labelled, own_checks, place_refusal, placed_of}
 use Rattle.placing.specs.Sample.{cases}

@@ -1,41 +1,95 @@
--- The list of matchings: its first is the smallest, and it is empty where there is none.
+-- The list of matchings: what is in it, and that it stands in the order of positions; its first is the smallest, and it is empty where there is none.
 -- Assumes nothing.
 use mathlib.Core.Path.{◌≡◌, refl, sym, ap, ◌∙◌}
-use mathlib.Core.Bool.{Bool, true}
-use mathlib.Core.List.{List, [], ◌∷◌, ◌++◌, map}
+use mathlib.Core.Bool.{Bool, true, false, not, cond, ◌&&◌}
+use mathlib.Core.List.{List, [], ◌∷◌, map}
+use mathlib.Core.List.Memᴰ
+use mathlib.Core.List.Memᴰ.{head as here}
+use mathlib.Core.List.Memᴰ.{not-nil}
+use mathlib.Core.List.Memᴰ.{tail as there}
+use mathlib.Core.List.{Memᴰ as Mem}
 use mathlib.Core.Logic.{◌⊎◌, inl, inr, ⊎_elim}
 use Prim.Native.Nat.{ℕ, zero, suc, ◌+◌, ◌≤◌, ◌<◌}
 use native.Mathlib.Omega.{arith}
-use borrow.Author.Tests.{ltb-true, ltb-false}
-use lib.Dec.{ltb}
+use borrow.Author.Tests.{eq-eqb, ne_eqb, eqb-true, eqb-false, ltb-true, ltb-false, lt-ltb}
+use lib.Dec.{eqb, ltb}
 use lib.ListN.{length, get_or}
 use Rattle.integers.specs.Places.{range}
-use Rattle.integers.proofs.Places.{by-test, by_cond}
-use Rattle.instance.specs.Instance.{Instance}
-use Rattle.rules.specs.Costs.{position, Matching}
-use Rattle.rules.specs.Calls.{is_matching}
-use Rattle.rules.specs.Matchings.{passing, joined, labellings_from, labellings, matchings, smallest, Before}
-use Rattle.rules.proofs.Calls.{matching_is, is_matching_lem}
+use Rattle.integers.proofs.Places.{by-test, by_cond, and_true, and_both, every_mem, mem_range, every-range}
+use Rattle.integers.proofs.Checks.{below_all, below_at}
+use Rattle.instance.specs.Instance.{Instance, exclusive, first}
+use Rattle.rules.specs.Costs.{position, chosen, Matching}
+use Rattle.rules.specs.Rounding.{free}
+use Rattle.rules.specs.Matchings.{is_matching, passing, joined, labellings_from, labellings, matchings, smallest, Before}
+use Rattle.rules.proofs.Ordered.{Sorted, sorted_append}
+
+-- ---- the test of a matching, both ways
+
+module _ (I : Instance) where
+  pub matching_is : {x : List ℕ} → Matching I x → is_matching I x ≡ true
+  unfolding is_matching free chosen
+  matching_is {x} m = below_all I.node_count (λ u. ltb (position x u) (I.degree u) && free I x u (position x u)) (λ u h.
+      and_both (lt-ltb (position x u) (I.degree u) (m.labelling.within u h))
+      (by-test (exclusive (I.label (first I u + position x u))) (λ ex. rw ex (every-range (λ w. not (eqb (I.label (chosen I x w)) (I.label (first I u + position x u)))) u (λ w l.
+      ap not (ne_eqb (I.label (chosen I x w)) (I.label (first I u + position x u)) (λ e. let q = m.distinct w u (omega arith) h (ap exclusive e ∙ ex) e in omega arith))))) (λ ex. rw ex)))
+
+  pub is_matching_lem : {x : List ℕ} → length x ≡ I.node_count → is_matching I x ≡ true → Matching I x
+  unfolding is_matching free chosen
+  is_matching_lem {x} z h = record {
+    labelling = record { size = z; within = λ u l. ltb-true (position x u) (I.degree u) (at u l).0 };
+    distinct = λ u w hu hw ex e. apart u w hu hw ex e;
+  }
+    where
+      at : (u : ℕ) → u < I.node_count → (ltb (position x u) (I.degree u) ≡ true) × (free I x u (position x u) ≡ true)
+      at u l = and_true (ltb (position x u) (I.degree u)) (free I x u (position x u)) (below_at I.node_count (λ u. ltb (position x u) (I.degree u) && free I x u (position x u)) h u l)
+
+      lower : (u w : ℕ) → w < I.node_count → u < w → exclusive (I.label (chosen I x w)) ≡ true → I.label (chosen I x u) ≡ I.label (chosen I x w) → ⊥
+      lower u w hw l ex e =
+          let t = every_mem (λ v. not (eqb (I.label (chosen I x v)) (I.label (first I w + position x w)))) (mem_range 0 w u (omega arith) (omega arith)) (rw ex at (at w hw).1) in
+          let q : true ≡ false = sym t ∙ ap not (eq-eqb (I.label (chosen I x u)) (I.label (first I w + position x w)) e) in
+          let y : ◌≡◌ {A = ℕ} 0 1 = cc in omega arith
+
+      apart : (u w : ℕ) → u < I.node_count → w < I.node_count → exclusive (I.label (chosen I x u)) ≡ true → I.label (chosen I x u) ≡ I.label (chosen I x w) → u ≡ w
+      apart u w hu hw ex e =
+          by-test (ltb u w) (λ t. absurd (lower u w hw (ltb-true u w t) (sym (ap exclusive e) ∙ ex) e))
+          (λ t. by-test (ltb w u) (λ t'. absurd (lower w u hu (ltb-true w u t') ex (sym e))) (λ t'. omega (arith, ltb-false u w t, ltb-false w u t')))
 
 -- ---- what passes a test
 
-passing-append {ℓ} : {A : Type ℓ} (t : A → Bool) (k l : List A) → passing t (k ++ l) ≡ passing t k ++ passing t l
-unfolding passing
-passing-append t [] l = refl
-passing-append t (x ∷ k) l = let e = passing-append t k l in by-test (t x) (λ q. rw q (ap (λ (r : List _). x ∷ r) e)) (λ q. rw q e)
+module _ {A : Type 0} (t : A → Bool) where
+  passing_mem : (l : List A) {y : A} → Mem y (passing t l) → Mem y l × (t y ≡ true)
+  unfolding passing
+  passing_mem [] m = absurd (not-nil m)
+  passing_mem (x ∷ l) {y} m = go (t x) refl (λ n. passing_mem l n) m
+    where
+      go : (b : Bool) → t x ≡ b → (Mem y (passing t l) → Mem y l × (t y ≡ true)) → Mem y (cond b (x ∷ passing t l) (passing t l)) → Mem y (x ∷ l) × (t y ≡ true)
+      go false e f m = let (n, q) = f m in (there n, q)
+      go true e f (here q) = (here q, ap t q ∙ e)
+      go true e f (there m) = let (n, q) = f m in (there n, q)
 
-passing-map {ℓ κ} : {A : Type ℓ} {B : Type κ} (t : B → Bool) (f : A → B) (l : List A) → passing t (map f l) ≡ map f (passing (λ x. t (f x)) l)
-unfolding passing
-passing-map t f [] = refl
-passing-map t f (x ∷ l) = let e = passing-map t f l in by-test (t (f x)) (λ q. rw q (ap (λ (r : List _). f x ∷ r) e)) (λ q. rw q e)
+  mem_passing : {y : A} (l : List A) → Mem y l → t y ≡ true → Mem y (passing t l)
+  unfolding passing
+  mem_passing [] m q = absurd (not-nil m)
+  mem_passing {y} (x ∷ l) m q = go (t x) refl (λ n. mem_passing l n q) m
+    where
+      go : (b : Bool) → t x ≡ b → (Mem y l → Mem y (passing t l)) → Mem y (x ∷ l) → Mem y (cond b (x ∷ passing t l) (passing t l))
+      go false e f (here z) = absurd (let o : true ≡ false = sym q ∙ ap t z ∙ e in let n : ◌≡◌ {A = ℕ} 0 1 = cc in omega arith)
+      go false e f (there m) = f m
+      go true e f (here z) = here z
+      go true e f (there m) = there (f m)
+
+  passing_sorted : (R : A → A → Type 0) (l : List A) → Sorted R l → Sorted R (passing t l)
+  unfolding passing
+  passing_sorted R [] s = tt
+  passing_sorted R (x ∷ l) s = by_cond (Sorted R) (t x) (λ _. (λ y m. s.0 y (passing_mem l m).0, passing_sorted R l s.1)) (λ _. passing_sorted R l s.1)
 
 -- ---- the order of positions, from the first on
 
-data Less : List ℕ → List ℕ → Type 0 where
+pub data Less : List ℕ → List ℕ → Type 0 where
   now : {a b : ℕ} {x y : List ℕ} → a < b → Less (a ∷ x) (b ∷ y)
   later : {a : ℕ} {x y : List ℕ} → Less x y → Less (a ∷ x) (a ∷ y)
 
-abbrev UpTo : List ℕ → List ℕ → Type 0
+abbrev pub UpTo : List ℕ → List ℕ → Type 0
 UpTo x y = Less x y ⊎ (x ≡ y)
 
 -- at the first place where they differ
@@ -43,73 +97,94 @@ place : {x y : List ℕ} → Less x y → (v : ℕ) × (v < length x) × ((w : �
 place (now h) = (0, omega arith, λ w l. absurd (omega arith), h)
 place (later s) = let (v, i, same, h) = place s in (suc v, omega arith, elim [ zero ↦ (λ l. refl) | suc w ↦ (λ l. same w (omega arith)) ], h)
 
--- ---- a list whose first is the smallest with the property P, and which is empty where none has it
+pub less_trans : {x y z : List ℕ} → Less x y → Less y z → Less x z
+less_trans (now p) (now q) = now (omega arith)
+less_trans (now p) (later q) = now p
+less_trans (later p) (now q) = now q
+less_trans (later p) (later q) = later (less_trans p q)
 
-abbrev Led : (List ℕ → Type 0) → List (List ℕ) → Type 0
-Led P [] = (y : List ℕ) → P y → ⊥
-Led P (x ∷ l) = P x × ((y : List ℕ) → P y → UpTo x y)
+-- ---- lists that begin with the numbers from a on, each beside all of l
 
--- one that begins with some k from a on and below e, and goes on as P k says
-abbrev From : (ℕ → List ℕ → Type 0) → ℕ → ℕ → List ℕ → Type 0
-From P e a [] = ⊥
-From P e a (k ∷ y) = (a ≤ k) × (k < e) × P k y
+module _ (l : List (List ℕ)) where
+  abbrev beside : ℕ → ℕ → List (List ℕ)
+  beside a d = joined (λ k. map (λ x. k ∷ x) l) (range a d)
 
-module _ (P : ℕ → List ℕ → Type 0) (e : ℕ) where
-  -- it begins with a, or with more
-  apart : (a : ℕ) (C : List ℕ → Type 0) → ((z : List ℕ) → P a z → C (a ∷ z)) → ((k : ℕ) (z : List ℕ) → From P e (suc a) (k ∷ z) → C (k ∷ z)) → (y : List ℕ) → From P e a y → C y
-  apart a C f g [] p = absurd p
-  apart a C f g (k ∷ z) (h, i, p) = by-test (ltb a k) (λ t. g k z (ltb-true a k t, i, p)) (λ t. let q : k ≡ a = omega (arith, ltb-false) in rw q (f z (rw q at p)))
+  beside_mem : (d a : ℕ) {y : List ℕ} → Mem y (beside a d) → (k : ℕ) × (z : List ℕ) × (a ≤ k) × (k < a + d) × Mem z l × (k ∷ z ≡ y)
+  unfolding joined range
+  beside_mem zero a m = absurd (not-nil m)
+  beside_mem (suc d) a m = ⊎_elim
+      (λ n. let (z, i, e) = Memᴰ.of_map (λ x. a ∷ x) l n in (a, z, omega arith, omega arith, i, e))
+      (λ n. let (k, z, h, i, j, e) = beside_mem d (suc a) n in (k, z, omega arith, omega arith, j, e))
+      (Memᴰ.append_cases (map (λ x. a ∷ x) l) m)
 
-  led_append : {a : ℕ} → a < e → (l r : List (List ℕ)) → Led (P a) l → Led (From P e (suc a)) r → Led (From P e a) (map (λ x. a ∷ x) l ++ r)
-  led_append {a} i [] [] f g = apart a (λ y. ⊥) f (λ k z. g (k ∷ z))
-  led_append {a} i [] ([] ∷ r) f (p, g) = absurd p
-  led_append {a} i [] ((k ∷ x) ∷ r) f (p, g) = ((omega arith, p.1, p.2), apart a (UpTo (k ∷ x)) (λ z q. absurd (f z q)) (λ k z. g (k ∷ z)))
-  led_append {a} i (x ∷ l) r (p, f) g =
-      ((omega arith, i, p), apart a (UpTo (a ∷ x)) (λ z q. ⊎_elim (λ s. inl (later s)) (λ q. inr (ap (λ (y : List ℕ). a ∷ y) q)) (f z q)) (λ k z q. inl (now q.0)))
+  mem_beside : (d a k : ℕ) {z : List ℕ} → a ≤ k → k < a + d → Mem z l → Mem (k ∷ z) (beside a d)
+  unfolding joined range
+  mem_beside zero a k h i m = absurd (omega arith)
+  mem_beside (suc d) a k {z} h i m = by-test (eqb a k)
+      (λ e. let q : a ≡ k = omega (arith, eqb-true a k e) in Memᴰ.append_left (beside (suc a) d) (rw q (Memᴰ.map (λ x. k ∷ x) m)))
+      (λ e. let q : a ≡ k → ⊥ = eqb-false a k e in Memᴰ.append_right (map (λ x. a ∷ x) l) (mem_beside d (suc a) k (omega arith) (omega arith) m))
 
-  module _ (t : List ℕ → Bool) (l : List (List ℕ)) (h : (k : ℕ) → Led (P k) (passing (λ x. t (k ∷ x)) l)) where
-    led_joined : (d a : ℕ) → a + d ≡ e → Led (From P e a) (passing t (joined (λ k. map (λ x. k ∷ x) l) (range a d)))
-    unfolding passing joined range
-    led_joined zero a q = elim [ [] ↦ (λ p. p) | k ∷ z ↦ (λ p. omega arith) ]
-    led_joined (suc d) a q = rw (passing-append, passing-map) (led_append (omega arith) (passing (λ x. t (a ∷ x)) l) _ (h a) (led_joined d (suc a) (omega arith)))
+  same_head : (a : ℕ) (k : List (List ℕ)) → Sorted Less k → Sorted Less (map (λ x. a ∷ x) k)
+  same_head a [] s = tt
+  same_head a (x ∷ k) s = (λ y m. let (z, i, e) = Memᴰ.of_map (λ x. a ∷ x) k m in rw (sym e) (later (s.0 z i)), same_head a k s.1)
+
+  beside_sorted : Sorted Less l → (d a : ℕ) → Sorted Less (beside a d)
+  unfolding joined range
+  beside_sorted s zero a = tt
+  beside_sorted s (suc d) a = sorted_append Less (map (λ x. a ∷ x) l) (beside (suc a) d) (same_head a l s) (beside_sorted s d (suc a))
+      (λ x y m n. let (x', i, e) = Memᴰ.of_map (λ x. a ∷ x) l m in let (k, y', h, j, o, e') = beside_mem d (suc a) n in let g : a < k = omega arith in rw (sym e, sym e') (now g))
 
 module _ (I : Instance) where
-  -- m positions of nodes from u on that pass a test
-  abbrev Listed : ℕ → ℕ → (List ℕ → Bool) → List ℕ → Type 0
-  Listed u zero t x = (x ≡ []) × (t x ≡ true)
-  Listed u (suc m) t x = From (λ k. Listed (suc u) m (λ y. t (k ∷ y))) (I.degree u) 0 x
+  -- m positions of nodes from u on
+  record Positions (u m : ℕ) (x : List ℕ) : Type 0 where
+    size : length x ≡ m
+    within : (i : ℕ) → i < m → position x i < I.degree (u + i)
 
-  led : (u m : ℕ) (t : List ℕ → Bool) → Led (Listed u m t) (passing t (labellings_from I u m))
-  unfolding passing labellings_from
-  led u zero t = by_cond (Led (Listed u zero t)) (t []) (λ q. ((refl, q), λ y p. inr (sym p.0))) (λ q y p. let z : ◌≡◌ {A = ℕ} 0 1 = cc (ap t p.0) in omega arith)
-  led u (suc m) t = led_joined (λ k. Listed (suc u) m (λ y. t (k ∷ y))) (I.degree u) t (labellings_from I (suc u) m) (λ k. led (suc u) m (λ y. t (k ∷ y))) (I.degree u) 0 (omega arith)
+  positions_mem : (m u : ℕ) {x : List ℕ} → Mem x (labellings_from I u m) → Positions u m x
+  unfolding labellings_from
+  positions_mem zero u m = let e = Memᴰ.eq_of_singleton m in record { size = ap length e; within = λ i h. absurd (omega arith) }
+  positions_mem (suc m) u {x} n =
+      let (k, z, h, j, i, e) = beside_mem (labellings_from I (suc u) m) (I.degree u) 0 n in
+      let p = positions_mem m (suc u) i in
+      rw (sym e) (record {
+        size = ap suc p.size;
+        within = elim [ zero ↦ (λ _. let q : u + zero ≡ u = omega arith in rw q (omega arith)) | suc w ↦ (λ l. let q : u + suc w ≡ suc u + w = omega arith in rw q (p.within w (omega arith))) ];
+      })
 
-  listed : (m u : ℕ) (t : List ℕ → Bool) (x : List ℕ) → length x ≡ m → ((i : ℕ) → i < m → position x i < I.degree (u + i)) → t x ≡ true → Listed u m t x
-  listed zero u t [] z h q = (refl, q)
-  listed zero u t (k ∷ x) z h q = absurd (omega arith)
-  listed (suc m) u t [] z h q = absurd (omega arith)
-  listed (suc m) u t (k ∷ x) z h q =
-      let e : u + zero ≡ u = omega arith in
-      (omega arith, rw e at (h zero (omega arith)), listed m (suc u) (λ y. t (k ∷ y)) x (omega arith) (λ i l. let e : suc u + i ≡ u + suc i = omega arith in rw e (h (suc i) (omega arith))) q)
+  mem_positions : (m u : ℕ) (x : List ℕ) → Positions u m x → Mem x (labellings_from I u m)
+  unfolding labellings_from
+  mem_positions zero u [] p = here refl
+  mem_positions zero u (k ∷ x) p = absurd (let s = p.size in omega arith)
+  mem_positions (suc m) u [] p = absurd (let s = p.size in omega arith)
+  mem_positions (suc m) u (k ∷ x) p =
+      let q : u + zero ≡ u = omega arith in
+      mem_beside (labellings_from I (suc u) m) (I.degree u) 0 k (omega arith) (let h = rw q at (p.within zero (omega arith)) in omega arith)
+      (mem_positions m (suc u) x (record { size = (let s = p.size in omega arith); within = λ i l. let q : suc u + i ≡ u + suc i = omega arith in rw q (p.within (suc i) (omega arith)) }))
 
-  listed_is : (m u : ℕ) (t : List ℕ → Bool) (x : List ℕ) → Listed u m t x → (length x ≡ m) × (t x ≡ true)
-  listed_is zero u t x (e, q) = (ap length e, q)
-  listed_is (suc m) u t [] p = absurd p
-  listed_is (suc m) u t (k ∷ x) (_, _, p) = let (z, q) = listed_is m (suc u) (λ y. t (k ∷ y)) x p in (ap suc z, q)
+  labellings_sorted : (m u : ℕ) → Sorted Less (labellings_from I u m)
+  unfolding labellings_from
+  labellings_sorted zero u = (λ y m. absurd (not-nil m), tt)
+  labellings_sorted (suc m) u = beside_sorted (labellings_from I (suc u) m) (labellings_sorted m (suc u)) (I.degree u) 0
 
-  matchings_led : Led (Listed 0 I.node_count (is_matching I)) (matchings I)
+  pub matchings_sorted : Sorted Less (matchings I)
   unfolding matchings labellings
-  matchings_led = led 0 I.node_count (is_matching I)
+  matchings_sorted = passing_sorted (is_matching I) Less (labellings I) (labellings_sorted I.node_count 0)
 
-  matching_listed : {x : List ℕ} → Matching I x → Listed 0 I.node_count (is_matching I) x
-  matching_listed {x} m =
-      listed I.node_count 0 (is_matching I) x m.labelling.size (λ i l. let e : 0 + i ≡ i = omega arith in rw e (m.labelling.within i l)) (matching_is I m)
+  -- ---- what is in the list
 
-  before : {x y : List ℕ} → length x ≡ I.node_count → UpTo x y → Before I x y ⊎ (x ≡ y)
+  pub matching_mem : {x : List ℕ} → Mem x (matchings I) → Matching I x
+  unfolding matchings labellings
+  matching_mem m = let (n, q) = passing_mem (is_matching I) (labellings I) m in is_matching_lem I (positions_mem I.node_count 0 n).size q
+
+  pub mem_matching : {x : List ℕ} → Matching I x → Mem x (matchings I)
+  unfolding matchings labellings
+  mem_matching {x} m = mem_passing (is_matching I) (labellings I) (mem_positions I.node_count 0 x (record { size = m.labelling.size; within = λ i l. let e : 0 + i ≡ i = omega arith in rw e (m.labelling.within i l) })) (matching_is I m)
+
+  pub before : {x y : List ℕ} → length x ≡ I.node_count → UpTo x y → Before I x y ⊎ (x ≡ y)
   before z (inl s) = let (v, i, same, h) = place s in inl (record { node = v; inside = omega arith; same = same; smaller = h })
   before z (inr e) = inr e
 
-  antisymm : {x y : List ℕ} → Before I x y ⊎ (x ≡ y) → Before I y x ⊎ (y ≡ x) → x ≡ y
+  pub antisymm : {x y : List ℕ} → Before I x y ⊎ (x ≡ y) → Before I y x ⊎ (y ≡ x) → x ≡ y
   antisymm (inr e) q = e
   antisymm (inl p) (inr e) = sym e
   antisymm {x} {y} (inl p) (inl q) =
@@ -120,13 +195,14 @@ module _ (I : Instance) where
   -- ---- the laws
 
   pub first_matching : {x : List ℕ} {rest : List (List ℕ)} → matchings I ≡ x ∷ rest → Matching I x
-  first_matching {x} e = let (z, q) = listed_is I.node_count 0 (is_matching I) x (rw e at matchings_led).0 in is_matching_lem I z q
+  first_matching e = matching_mem (rw e (here refl))
 
   pub first_before : {x : List ℕ} {rest : List (List ℕ)} → matchings I ≡ x ∷ rest → {y : List ℕ} → Matching I y → Before I x y ⊎ (x ≡ y)
-  first_before e {y} m = before (first_matching e).labelling.size ((rw e at matchings_led).1 y (matching_listed m))
+  first_before {x} e {y} m = before (first_matching e).labelling.size
+      (⊎_elim (λ q. inr (sym q)) (λ n. inl ((rw e at matchings_sorted).0 y n)) (Memᴰ.cases_cons (rw e at (mem_matching m))))
 
   pub none_matching : matchings I ≡ [] → {x : List ℕ} → Matching I x → ⊥
-  none_matching e {x} m = (rw e at matchings_led) x (matching_listed m)
+  none_matching e m = not-nil (rw e at (mem_matching m))
 
   pub first_is : {x : List ℕ} → Matching I x → ((y : List ℕ) → Matching I y → Before I x y ⊎ (x ≡ y)) → (rest : List (List ℕ)) × (matchings I ≡ x ∷ rest)
   first_is {x} m f = go (matchings I) refl

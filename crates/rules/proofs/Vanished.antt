@@ -21,7 +21,7 @@ use Rattle.instance.proofs.RisingLabels.{shared_not, vanished_is}
 use Rattle.rules.specs.Places.{label_places}
 use Rattle.rules.specs.Costs.{Costs, Buffers, costs_of, in_range, opened, node_least, edge_least}
 use Rattle.rules.specs.Messages.{Message, node_to_edge, edge_to_node, node_to_label, label_to_node, to_label, to_edge, deltas, plus, filled, shift}
-use Rattle.rules.specs.Rounding.{round}
+use Rattle.rules.specs.Assigned.{candidate}
 use Rattle.rules.specs.Run.{Kind, message, rounding, unknown, Record, records, Outcome, refused, done, Ran, proceed, rounded, legal_message, checked, effect, step, run, run_list}
 use Rattle.rules.specs.Calls.{run_refusal, run_of, Call, run as run_call, report, next, rules}
 use Rattle.rules.proofs.Places.{label_mem}
@@ -63,7 +63,7 @@ module _ (I : Instance) (i : ℕ) (v : not (exclusive (I.label i)) ≡ true) whe
     effect_still b (message m) u k r =
         by_cond (Still b) (legal_message I m u k r)
         (λ t. let d = deltas I (costs_of b) m u k r in by_cond (Still b) (in_range limit (shift d b)) (λ _. shift_still d b (none_moved (costs_of b) m u k r t)) (λ _. tt)) (λ _. tt)
-    effect_still b rounding u k r = by_cond (Still b) (eqb u 0 && eqb k 0 && eqb r 0) (λ _. go (round I (costs_of b))) (λ _. tt)
+    effect_still b (rounding w) u k r = by_cond (Still b) (eqb u 0 && eqb k 0 && eqb r 0) (λ _. go (candidate I (costs_of b) w)) (λ _. tt)
       where
         go : (o : Option (List ℕ)) → Still b (rounded I b o)
         go none = refl

@@ -1,9 +1,10 @@
 -- Labellings and matchings in the order of their positions, compared from node 0 on (document 02, wish 4).
-use Rattle.std.specs.Prelude.{◌≡◌, Bool, cond, List, [], ◌∷◌, ◌++◌, map, ℕ, zero, suc, ◌<◌, get_or}
+use Rattle.std.specs.Prelude.{◌≡◌, Bool, cond, ◌&&◌, List, [], ◌∷◌, ◌++◌, map, ℕ, zero, suc, ◌<◌, ltb, get_or}
 use Rattle.integers.specs.Places.{range}
+use Rattle.integers.specs.Checks.{below}
 use Rattle.instance.specs.Instance.{Instance}
 use Rattle.rules.specs.Costs.{position}
-use Rattle.rules.specs.Calls.{is_matching}
+use Rattle.rules.specs.Rounding.{free}
 
 -- of a list those that pass a test, and what f makes of each number, one list after another
 unfoldable pub passing {ℓ} : {A : Type ℓ} → (A → Bool) → List A → List A
@@ -15,6 +16,10 @@ joined f [] = []
 joined f (k ∷ l) = f k ++ joined f l
 
 module _ (I : Instance) where
+  -- a position for each node, whose label is 255 or no lower node's
+  unfoldable pub is_matching : List ℕ → Bool
+  is_matching x = below I.node_count (λ u. ltb (position x u) (I.degree u) && free I x u (position x u))
+
   -- the positions of m nodes from u on: u at its first position beside all that the others can have, then at its second, and so on
   unfoldable pub labellings_from : ℕ → ℕ → List (List ℕ)
   labellings_from u zero = [] ∷ []
@@ -25,7 +30,7 @@ module _ (I : Instance) where
   labellings = labellings_from 0 I.node_count
 
   unfoldable pub matchings : List (List ℕ)
-  matchings = passing (is_matching I) labellings
+  matchings = passing is_matching labellings
 
   -- "the matching smallest when positions are compared from node 0 on", and the empty list where there is none
   unfoldable pub smallest : List ℕ
