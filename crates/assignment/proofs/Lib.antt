@@ -2,3 +2,5 @@
 pub mod Counts
 pub mod Shifts
 pub mod Firsts
+pub mod Sums
+pub mod Duality

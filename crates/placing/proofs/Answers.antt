@@ -3,7 +3,7 @@
 use mathlib.Core.Path.{◌≡◌, refl, sym, ap, ◌∙◌, subst}
 use mathlib.Core.Bool.{Bool, true, cond}
 use mathlib.Core.List.{List, [], ◌∷◌}
-use mathlib.Core.Logic.{inl, inr, ⊎_elim}
+use mathlib.Core.Logic.{◌⊎◌, inl, inr, ⊎_elim}
 use Prim.Native.Nat.{ℕ, ◌+◌, ◌≤◌, ◌<◌}
 use native.Mathlib.Omega.{arith}
 use borrow.Author.Tests.{eq-eqb, eqb-true, ltb-true, ltb-false}
@@ -18,10 +18,10 @@ use Rattle.instance.specs.Readable.{Proper}
 use Rattle.instance.proofs.RisingLabels.{exclusive_is, shared_not}
 use Rattle.instance.proofs.LaidOut.{row_inside, label_known_lem}
 use Rattle.rules.specs.Costs.{position, chosen, Labelling, Matching}
-use Rattle.rules.specs.Matchings.{matchings}
+use Rattle.rules.specs.Matchings.{matchings, Before}
 use Rattle.rules.proofs.Matchings.{first_is, none_is}
 use Rattle.assignment.specs.Rows.{Rows, In, but, count}
-use Rattle.assignment.specs.First.{First}
+use Rattle.assignment.specs.First.{Agree, Smaller, First}
 use Rattle.assignment.proofs.Counts.{differ, by-same, some_at, at_some, true_but, pigeonhole}
 use Rattle.placing.specs.Placing.{member, labelled, Places, Obstruction}
 use Rattle.placing.specs.Words.{entry, opens, rows_of, All, rank, Laid, Blocked}
@@ -88,7 +88,7 @@ exclusive_small {l} (inr e) x = absurd (shared_not l e x)
 -- ---- a position for each node
 
 module _ (I : Instance) {f : ℕ → ℕ} (within : (u : ℕ) → u < I.node_count → f u < I.degree u) where
-  position_is : (u : ℕ) → u < I.node_count → position (tabulate I.node_count f) u ≡ f u
+  pub position_is : (u : ℕ) → u < I.node_count → position (tabulate I.node_count f) u ≡ f u
   position_is u h = get_d_tabulate I.node_count f u 0 h
 
   positions_labelling : Labelling I (tabulate I.node_count f)
@@ -99,7 +99,7 @@ module _ (I : Instance) {f : ℕ → ℕ} (within : (u : ℕ) → u < I.node_cou
   positions_label u h = ap (λ (k : ℕ). I.label (first I u + k)) (position_is u h)
 
 -- the positions of labels: their ranks
-abbrev ranks : ℕ → List ℕ → (ℕ → ℕ) → List ℕ
+abbrev pub ranks : ℕ → List ℕ → (ℕ → ℕ) → List ℕ
 ranks n sets p = tabulate n (λ u. rank (entry sets u) (p u))
 
 module _ {I : Instance} (proper : Proper I) {sets : List ℕ} {own : List Bool} (laid : Laid I I.node_count sets own) where
@@ -126,7 +126,7 @@ module _ {I : Instance} (proper : Proper I) {sets : List ℕ} {own : List Bool} 
 
   -- a placing as a matching
   module _ {p : ℕ → ℕ} (m : All I.node_count sets own p) where
-    rank_within : (u : ℕ) → u < I.node_count → rank (entry sets u) (p u) < I.degree u
+    pub rank_within : (u : ℕ) → u < I.node_count → rank (entry sets u) (p u) < I.degree u
     rank_within u h = (at_rank u (p u) h (m.allowed u h)).0
 
     ranks_labelling : Labelling I (ranks I.node_count sets p)
@@ -135,7 +135,7 @@ module _ {I : Instance} (proper : Proper I) {sets : List ℕ} {own : List Bool} 
     ranks-label : (u : ℕ) → u < I.node_count → I.label (chosen I (ranks I.node_count sets p) u) ≡ p u
     ranks-label u h = positions_label I rank_within u h ∙ (at_rank u (p u) h (m.allowed u h)).1
 
-    placed_matching : Matching I (ranks I.node_count sets p)
+    pub placed_matching : Matching I (ranks I.node_count sets p)
     placed_matching = record {
       labelling = ranks_labelling;
       distinct = λ u w h h'. rw (ranks-label u h, ranks-label w h') (λ x e. m.distinct u w h h' (same_slot u w (exclusive_small (opens_kinds sets own u (p u) (m.allowed u h)) x) e));
@@ -143,7 +143,7 @@ module _ {I : Instance} (proper : Proper I) {sets : List ℕ} {own : List Bool} 
 
   -- a matching as a placing
   module _ {y : List ℕ} (m : Matching I y) where
-    matching_placed : All I.node_count sets own (λ u. I.label (chosen I y u))
+    pub matching_placed : All I.node_count sets own (λ u. I.label (chosen I y u))
     unfolding chosen
     matching_placed =
         let may : (u : ℕ) → u < I.node_count → opens sets own u (I.label (chosen I y u)) ≡ true = (λ u h. laid.has u (position y u) h (m.labelling.within u h)) in
@@ -153,19 +153,16 @@ module _ {I : Instance} (proper : Proper I) {sets : List ℕ} {own : List Bool} 
               (same_label (opens_kinds sets own u _ (may u h)) (opens_kinds sets own w _ (may w h')) e);
         }
 
-    matching_rank : (u : ℕ) → u < I.node_count → rank (entry sets u) (I.label (chosen I y u)) ≡ position y u
+    pub matching_rank : (u : ℕ) → u < I.node_count → rank (entry sets u) (I.label (chosen I y u)) ≡ position y u
     unfolding chosen
     matching_rank u h = laid.ranks u (position y u) h (m.labelling.within u h)
 
   -- where the labels agree the positions do, and where a label is lower the position is
-  pub smallest_first : {p : ℕ → ℕ} → First (All I.node_count sets own) I.node_count p
-      → (rest : List (List ℕ)) × (matchings I ≡ tabulate I.node_count (λ u. rank (entry sets u) (p u)) ∷ rest)
+  pub comes_before : {p : ℕ → ℕ} → All I.node_count sets own p → {y : List ℕ} → Matching I y
+      → Smaller I.node_count p (λ u. I.label (chosen I y u)) ⊎ Agree I.node_count p (λ u. I.label (chosen I y u)) → Before I (ranks I.node_count sets p) y ⊎ (ranks I.node_count sets p ≡ y)
   unfolding chosen
-  smallest_first {p} f =
-      let m = f.one in
+  comes_before {p} m {y} n =
       let x = ranks I.node_count sets p in
-      let z = (ranks_labelling m).size in
-      first_is I (placed_matching m) (λ y n.
       let same : (w : ℕ) → w < I.node_count → p w ≡ I.label (chosen I y w) → position x w ≡ position y w =
       (λ w h e. position_is I (rank_within m) w h ∙ ap (rank (entry sets w)) e ∙ matching_rank n w h) in
       ⊎_elim
@@ -175,8 +172,11 @@ module _ {I : Instance} (proper : Proper I) {sets : List ℕ} {own : List Bool} 
         same = λ w k. same w (omega arith) (a w k);
         smaller = lower_first u (position x u) (position y u) h ((ranks_labelling m).within u h) (omega (arith, ranks-label m u h));
       }))
-      (λ a. inr (ext_get_or 0 x y (z ∙ sym n.labelling.size) (λ w k. let h : w < I.node_count = omega arith in same w h (a w h))))
-      (f.first (λ u. I.label (chosen I y u)) (matching_placed n)))
+      (λ a. inr (ext_get_or 0 x y ((ranks_labelling m).size ∙ sym n.labelling.size) (λ w k. let h : w < I.node_count = omega (arith, (ranks_labelling m).size) in same w h (a w h))))
+
+  pub smallest_first : {p : ℕ → ℕ} → First (All I.node_count sets own) I.node_count p
+      → (rest : List (List ℕ)) × (matchings I ≡ tabulate I.node_count (λ u. rank (entry sets u) (p u)) ∷ rest)
+  smallest_first {p} f = first_is I (placed_matching f.one) (λ y n. comes_before f.one n (f.first (λ u. I.label (chosen I y u)) (matching_placed n)))
 
   -- ---- some nodes not placed
 

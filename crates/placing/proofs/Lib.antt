@@ -13,3 +13,4 @@ pub mod Blocking
 pub mod Seating
 pub mod Settling
 pub mod Answers
+pub mod Cheapest

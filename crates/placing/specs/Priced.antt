@@ -1,5 +1,5 @@
 -- A placing of least cost, by prices of the labels: each node is where its cost and the label's price are least together, and only labels that are taken have a price.
-use Rattle.std.specs.Prelude.{◌≡◌, Bool, true, List, ℕ, ◌+◌, ◌^◌, ◌≤◌, ◌<◌, length, get_or, ℤ, pos, ◌+ℤ◌, ◌≤ℤ◌, nat_abs}
+use Rattle.std.specs.Prelude.{◌≡◌, Bool, true, false, List, ℕ, ◌+◌, ◌^◌, ◌≤◌, ◌<◌, length, get_or, ℤ, pos, ◌+ℤ◌, ◌≤ℤ◌, nat_abs}
 use Rattle.integers.specs.Words.{bit}
 use Rattle.instance.specs.Instance.{Instance, first}
 use Rattle.placing.specs.Words.{entry, opens, rank}
@@ -23,3 +23,13 @@ pub record Priced (n : ℕ) (sets : List ℕ) (own : List Bool) (c : ℕ → ℕ
   pub top : (l : ℕ) → nat_abs (price prices l) ≤ 2 ^ 50
   pub least : (u k : ℕ) → u < n → opens sets own u k ≡ true → net c prices u (entry taken u) ≤ℤ net c prices u k
   pub idle : (l : ℕ) → l < 64 → bit free l ≡ true → price prices l ≡ pos 0
+
+-- the cells at which a node pays as little as at its label: `sets'` and `own'` are those of `sets` and `own`
+pub record Tight (n : ℕ) (sets : List ℕ) (own : List Bool) (c : ℕ → ℕ → ℤ) (taken : List ℕ) (prices : List ℤ) (sets' : List ℕ) (own' : List Bool) : Type 0 where
+  pub is : (u k : ℕ) → u < n → opens sets' own' u k ≡ true → (opens sets own u k ≡ true) × (net c prices u k ≡ net c prices u (entry taken u))
+  pub has : (u k : ℕ) → u < n → opens sets own u k ≡ true → net c prices u k ≡ net c prices u (entry taken u) → opens sets' own' u k ≡ true
+
+-- the labels that have no price
+pub record Unpriced (prices : List ℤ) (idle : ℕ) : Type 0 where
+  pub is : (l : ℕ) → l < 64 → bit idle l ≡ true → price prices l ≡ pos 0
+  pub has : (l : ℕ) → l < 64 → price prices l ≡ pos 0 → bit idle l ≡ true
