@@ -13,4 +13,8 @@ pub mod Blocking
 pub mod Seating
 pub mod Settling
 pub mod Answers
-pub mod Cheapest
+pub mod Listing
+pub mod Offering
+pub mod TightLaws
+pub mod SeatLaws
+pub mod Undercut

@@ -18,7 +18,7 @@ use Rattle.placing.specs.Words.{entry, Linked, Joined}
 use Rattle.placing.proofs.Searching.{or_fails}
 
 -- a table of words with one set
-words_set : (t : List ℕ) (i w : ℕ) → Words t → w < 2 ^ 64 → Words (set t i w)
+pub words_set : (t : List ℕ) (i w : ℕ) → Words t → w < 2 ^ 64 → Words (set t i w)
 words_set t i w h f j = by-same j i
     (λ e. by-test (ltb i (length t))
     (λ z. rw (e, get_or-set_same t i w 0 (ltb-true i (length t) z)) f)

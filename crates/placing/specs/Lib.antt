@@ -3,4 +3,8 @@ pub mod Placing
 pub mod Words
 pub mod Labels
 pub mod Priced
+pub mod Listed
+pub mod Paths
+pub mod TightRows
+pub mod Assigning
 pub mod Sample

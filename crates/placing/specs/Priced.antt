@@ -24,10 +24,10 @@ pub record Priced (n : ℕ) (sets : List ℕ) (own : List Bool) (c : ℕ → ℕ
   pub least : (u k : ℕ) → u < n → opens sets own u k ≡ true → net c prices u (entry taken u) ≤ℤ net c prices u k
   pub idle : (l : ℕ) → l < 64 → bit free l ≡ true → price prices l ≡ pos 0
 
--- the cells at which a node pays as little as at its label: `sets'` and `own'` are those of `sets` and `own`
+-- the cells at which a node pays no more than at its label: `sets'` and `own'` are those of `sets` and `own`
 pub record Tight (n : ℕ) (sets : List ℕ) (own : List Bool) (c : ℕ → ℕ → ℤ) (taken : List ℕ) (prices : List ℤ) (sets' : List ℕ) (own' : List Bool) : Type 0 where
-  pub is : (u k : ℕ) → u < n → opens sets' own' u k ≡ true → (opens sets own u k ≡ true) × (net c prices u k ≡ net c prices u (entry taken u))
-  pub has : (u k : ℕ) → u < n → opens sets own u k ≡ true → net c prices u k ≡ net c prices u (entry taken u) → opens sets' own' u k ≡ true
+  pub is : (u k : ℕ) → u < n → opens sets' own' u k ≡ true → (opens sets own u k ≡ true) × (net c prices u k ≤ℤ net c prices u (entry taken u))
+  pub has : (u k : ℕ) → u < n → opens sets own u k ≡ true → net c prices u k ≤ℤ net c prices u (entry taken u) → opens sets' own' u k ≡ true
 
 -- the labels that have no price
 pub record Unpriced (prices : List ℤ) (idle : ℕ) : Type 0 where

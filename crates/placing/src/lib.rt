@@ -3,13 +3,17 @@
 
 mod all;
 mod answer;
+mod assigning;
 mod greedy;
 mod lowering;
 mod moves;
+mod offers;
+mod paths;
 mod search;
 mod seats;
 mod smallest;
 mod tables;
+mod tight;
 mod words;
 
 pub use answer::place;

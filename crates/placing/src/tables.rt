@@ -21,9 +21,9 @@ pub(crate) struct Nodes {
 
 // The labels of a node below 64 as a word, and whether it has 255.
 #[derive(Clone, Copy)]
-struct Row {
-    word: u64,
-    own: bool,
+pub(crate) struct Row {
+    pub word: u64,
+    pub own: bool,
 }
 
 // The word of labels below 64.

@@ -14,7 +14,7 @@ use lib.Signed.{◌≤ℤ◌}
 use Rattle.integers.specs.Words.{bit}
 use Rattle.integers.specs.Places.{tabulate, total}
 use Rattle.integers.proofs.Parts.{linear}
-use Rattle.integers.proofs.Order.{le_antisymm}
+use Rattle.integers.proofs.Order.{le_trans}
 use Rattle.integers.proofs.Places.{by-test}
 use Rattle.integers.proofs.Totals.{total_ext}
 use Rattle.instance.specs.Instance.{Instance, first}
@@ -94,7 +94,7 @@ module _ {n : ℕ} {sets : List ℕ} {own : List Bool} {c : ℕ → ℕ → ℤ}
     pub full_balanced : {q : ℕ → ℕ} → Full n sets' own' idle q → Even q
     full_balanced {q} (m, filled) = record {
       placed = record { allowed = λ u h. (t.is u (q u) h (m.allowed u h)).0; distinct = m.distinct };
-      least = λ u l h a. let (b, e) = t.is u (q u) h (m.allowed u h) in rw (slot_net u l a, slot_net u (q u) b, e) (p.least u l h a);
+      least = λ u l h a. let (b, e) = t.is u (q u) h (m.allowed u h) in rw (slot_net u l a, slot_net u (q u) b) (le_trans e (p.least u l h a));
       floor = p.floor;
       idle = λ l h f. by-test (ltb l 64)
           (λ y. let g = ltb-true l 64 y in by-test (bit idle l) (z.is l g) (λ e. let (u, hu, q') = filled l g e in absurd (f u hu (slot_label u (omega arith) ∙ q'))))
@@ -107,9 +107,7 @@ module _ {n : ℕ} {sets : List ℕ} {own : List Bool} {c : ℕ → ℕ → ℤ}
         tight : (u : ℕ) → u < n → opens sets' own' u (q u) ≡ true
         tight u h =
             let a = b.placed.allowed u h in
-            let below = b.least u (entry taken u) h (placed.allowed u h) in
-            let above = p.least u (q u) h a in
-            t.has u (q u) h a (le_antisymm (rw (slot_net u (q u) a, own_net u h) at below) above)
+            t.has u (q u) h a (rw (slot_net u (q u) a, own_net u h) at (b.least u (entry taken u) h (placed.allowed u h)))
 
         filled : (l : ℕ) → l < 64 → bit idle l ≡ false → (u : ℕ) × (u < n) × (q u ≡ l)
         filled l h e = ⊎_elim
