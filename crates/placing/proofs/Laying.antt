@@ -177,10 +177,10 @@ module _ {s : List ℕ} (r : Readable s) {u : ℕ} (h : u < (instance_of s).node
   bytes_inside : a + I.degree u ≤ length s
   bytes_inside = omega (arith, row_inside I h, r.whole)
 
-  bytes_long : length (bytes_of s u) ≡ I.degree u
+  pub bytes_long : length (bytes_of s u) ≡ I.degree u
   bytes_long = length_part s a (I.degree u) bytes_inside
 
-  bytes_at : (k : ℕ) → k < length (bytes_of s u) → entry (bytes_of s u) k ≡ I.label (first I u + k)
+  pub bytes_at : (k : ℕ) → k < length (bytes_of s u) → entry (bytes_of s u) k ≡ I.label (first I u + k)
   unfolding instance_of
   bytes_at k l =
       let n = bytes_long in

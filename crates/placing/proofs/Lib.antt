@@ -18,3 +18,4 @@ pub mod Offering
 pub mod TightLaws
 pub mod SeatLaws
 pub mod Undercut
+pub mod Reaching

@@ -25,7 +25,7 @@ fn labels_below(label: u8) -> u64
 
 // How many labels of a word are below one.
 #[tactic(auto, unfolding(crate::specs::Words::rank))]
-fn rank_of(word: u64, label: u8) -> u8
+pub(crate) fn rank_of(word: u64, label: u8) -> u8
     requires { rank word label < 256 }
     ensures { result ≡ rank word label }
 {

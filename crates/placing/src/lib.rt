@@ -4,6 +4,7 @@
 mod all;
 mod answer;
 mod assigning;
+mod assign;
 mod greedy;
 mod lowering;
 mod moves;

@@ -1,0 +1,164 @@
+-- One way to a label after another: what the tables of a search hold then.
+-- Assumes nothing.
+use mathlib.Core.Path.{◌≡◌, refl, sym, ap, ◌∙◌, subst}
+use mathlib.Core.Bool.{Bool, true, false, cond}
+use mathlib.Core.List.{List}
+use mathlib.Core.Logic.{◌⊎◌, inl, inr, ⊎_elim}
+use Prim.Native.Nat.{ℕ, suc, ◌+◌, ◌^◌, ◌≤◌, ◌<◌}
+use native.Mathlib.Omega.{arith}
+use borrow.Author.Tests.{lt-ltb, le-ltb, ne_eqb, eq-eqb, eqb-true, ltb-true, ltb-false}
+use lib.Dec.{eqb, ltb}
+use lib.Bits.{bit_or}
+use lib.IntN.{ℤ, pos, ◌+ℤ◌, nat_abs}
+use lib.Signed.{◌≤ℤ◌, ◌<ℤ◌}
+use lib.ListN.{length, get_or, set, get_or-eq_default}
+use lib.Seq.{get_or-set_same, get_or-set_other}
+use Rattle.integers.specs.Words.{bit}
+use Rattle.integers.proofs.Words.{bit_or_lem, bit_power, bit_own}
+use Rattle.integers.proofs.Places.{by-test, if-true, if-false, right_true}
+use Rattle.integers.proofs.Parts.{linear, add}
+use Rattle.assignment.proofs.Counts.{by-same}
+use Rattle.placing.specs.declared.offers.Offers.{Offers}
+use Rattle.placing.specs.declared.paths.Paths.{Paths}
+use Rattle.placing.specs.Words.{entry}
+use Rattle.placing.specs.Priced.{price}
+use Rattle.placing.specs.Paths.{may, paid, way, unmet, far_of, by_of, Kept, Same, Nearer, Reached, Scanned}
+
+-- ---- the two tables by the kind of label
+
+module _ (p : Paths) where
+  pub far_small : {l : ℕ} → l < 64 → far_of p l ≡ get_or p.far l (pos 0)
+  unfolding far_of
+  far_small {l} h = if-true _ _ (lt-ltb l 64 h)
+
+  pub by_small : {l : ℕ} → l < 64 → by_of p l ≡ entry p.by l
+  unfolding by_of
+  by_small {l} h = if-true _ _ (lt-ltb l 64 h)
+
+  pub far_home : {l : ℕ} → l ≡ 255 → far_of p l ≡ p.home
+  unfolding far_of
+  far_home {l} e = rw e
+
+  pub by_home : {l : ℕ} → l ≡ 255 → by_of p l ≡ p.home_by
+  unfolding by_of
+  by_home {l} e = rw e
+
+-- no price stands beyond the table
+pub price_beyond : (prices : List ℤ) (l : ℕ) → length prices ≡ 64 → 64 ≤ l → price prices l ≡ pos 0
+price_beyond prices l z h = get_or-eq_default prices (pos 0) {n = l} (omega arith)
+
+-- the same entries give the same ways
+module _ (p p' : Paths) where
+  far_same : (l : ℕ) → (l < 64 → get_or p'.far l (pos 0) ≡ get_or p.far l (pos 0)) → (l ≡ 255 → p'.home ≡ p.home) → far_of p' l ≡ far_of p l
+  unfolding far_of
+  far_same l f g = by-test (ltb l 64)
+      (λ t. if-true _ _ t ∙ f (ltb-true l 64 t) ∙ sym (if-true _ _ t))
+      (λ t. if-false _ _ t ∙ by-test (eqb l 255) (λ e. if-true _ _ e ∙ g (eqb-true l 255 e) ∙ sym (if-true _ _ e)) (λ e. if-false _ _ e ∙ sym (if-false _ _ e)) ∙ sym (if-false _ _ t))
+
+  by_same_lem : (l : ℕ) → (l < 64 → entry p'.by l ≡ entry p.by l) → (l ≡ 255 → p'.home_by ≡ p.home_by) → by_of p' l ≡ by_of p l
+  unfolding by_of
+  by_same_lem l f g = by-test (ltb l 64)
+      (λ t. if-true _ _ t ∙ f (ltb-true l 64 t) ∙ sym (if-true _ _ t))
+      (λ t. if-false _ _ t ∙ by-test (eqb l 255) (λ e. if-true _ _ e ∙ g (eqb-true l 255 e) ∙ sym (if-true _ _ e)) (λ e. if-false _ _ e ∙ sym (if-false _ _ e)) ∙ sym (if-false _ _ t))
+
+pub kept_self : (p : Paths) → Kept p p
+kept_self p = record { prices = refl; nodes = refl; labels = refl; step = refl }
+
+pub same_self : (p : Paths) (l : ℕ) → Same p p l
+same_self p l = record { far = refl; by = refl; waits = refl }
+
+-- ---- a way that is not shorter
+
+pub reached_not : (p : Paths) (l : ℕ) {z : ℤ} → far_of p l ≤ℤ z → Reached p p l z
+reached_not p l h = record { kept = kept_self p; others = λ k _. same_self p k; here = inl (same_self p l, h) }
+
+-- ---- a shorter way, to a label below 64 and to 255
+
+module _ (p p' : Paths) (kept : Kept p p') where
+  pub reached_label : {l : ℕ} {z : ℤ} → l < 64 → length p.far ≡ 64 → length p.by ≡ 64 → z <ℤ get_or p.far l (pos 0)
+      → p'.far ≡ set p.far l z → p'.by ≡ set p.by l p.step → p'.waiting ≡ bit_or p.waiting (2 ^ l) → p'.home ≡ p.home → p'.home_by ≡ p.home_by → Reached p p' l z
+  reached_label {l} {z} h sf sb less ef eb ew eh ey = record {
+    kept = kept;
+    others = λ k d. record {
+      far = far_same p p' k (λ _. ap (λ (t : List ℤ). get_or t k (pos 0)) ef ∙ get_or-set_other p.far l k z (pos 0) d) (λ _. eh);
+      by = by_same_lem p p' k (λ _. ap (λ (t : List ℕ). entry t k) eb ∙ get_or-set_other p.by l k p.step 0 d) (λ _. ey);
+      waits = ap (λ (w : ℕ). bit w k) ew ∙ bit_or_lem p.waiting (2 ^ l) k ∙ other (bit p.waiting k) (bit_power l k ∙ ne_eqb k l d);
+    };
+    here = inr (record {
+      less = let e = far_small p h in rw e less;
+      far = far_small p' h ∙ ap (λ (t : List ℤ). get_or t l (pos 0)) ef ∙ get_or-set_same p.far l z (pos 0) (omega arith);
+      by = by_small p' h ∙ ap (λ (t : List ℕ). entry t l) eb ∙ get_or-set_same p.by l p.step 0 (omega arith);
+      waits = λ _. ap (λ (w : ℕ). bit w l) ew ∙ bit_or_lem p.waiting (2 ^ l) l ∙ right_true (bit p.waiting l) (bit_own l);
+    });
+  }
+    where
+      other : (a : Bool) {b : Bool} → b ≡ false → (mathlib.Core.Bool.◌||◌ a b) ≡ a
+      other true e = refl
+      other false e = e
+
+  pub reached_home : {l : ℕ} {z : ℤ} → l ≡ 255 → z <ℤ p.home → p'.far ≡ p.far → p'.by ≡ p.by → p'.waiting ≡ p.waiting → p'.home ≡ z → p'.home_by ≡ p.step → Reached p p' l z
+  reached_home {l} {z} h less ef eb ew eh ey = record {
+    kept = kept;
+    others = λ k d. record {
+      far = far_same p p' k (λ _. ap (λ (t : List ℤ). get_or t k (pos 0)) ef) (λ e. absurd (d (e ∙ sym h)));
+      by = by_same_lem p p' k (λ _. ap (λ (t : List ℕ). entry t k) eb) (λ e. absurd (d (e ∙ sym h)));
+      waits = ap (λ (w : ℕ). bit w k) ew;
+    };
+    here = inr (record {
+      less = let e = far_home p h in rw e less;
+      far = far_home p' h ∙ eh;
+      by = by_home p' h ∙ ey;
+      waits = λ s. absurd (omega arith);
+    });
+  }
+
+-- ---- a node's row: the first k of its labels f
+
+pub record Scanning (o : Offers) (p p' : Paths) (u : ℕ) (b : ℤ) (f : ℕ → ℕ) (k : ℕ) : Type 0 where
+  pub kept : Kept p p'
+  pub covered : (j : ℕ) → j < k → far_of p' (f j) ≤ℤ way o p.prices u b (f j)
+  pub each : (l : ℕ) → Same p p' l ⊎ (may o u l × Nearer p p' l (way o p.prices u b l))
+
+pub scanning_none : (o : Offers) (p : Paths) (u : ℕ) (b : ℤ) (f : ℕ → ℕ) → Scanning o p p u b f 0
+scanning_none o p u b f = record { kept = kept_self p; covered = λ j h. absurd (omega arith); each = λ l. inl (same_self p l) }
+
+-- no way grows longer
+reached_le : {p p' : Paths} {l : ℕ} {z : ℤ} → Reached p p' l z → (k : ℕ) → far_of p' k ≤ℤ far_of p k
+reached_le {p} {p'} {l} r k = by-same k l
+    (λ e. subst (λ i. far_of p' i ≤ℤ far_of p i) (sym e) (⊎_elim (λ (s, _). omega (linear, s.far)) (λ n. omega (linear, n.far, n.less)) r.here))
+    (λ d. let s = r.others k d in omega (linear, s.far))
+
+pub scanning_more : {o : Offers} {p p' p'' : Paths} {u : ℕ} {b : ℤ} {f : ℕ → ℕ} {k : ℕ} → may o u (f k) → Scanning o p p' u b f k
+    → Reached p' p'' (f k) (way o p.prices u b (f k)) → Scanning o p p'' u b f (k + 1)
+scanning_more {o} {p} {p'} {p''} {u} {b} {f} {k} a v r = record {
+  kept = record { prices = r.kept.prices ∙ v.kept.prices; nodes = r.kept.nodes ∙ v.kept.nodes; labels = r.kept.labels ∙ v.kept.labels; step = r.kept.step ∙ v.kept.step };
+  covered = λ j h. by-same j k
+      (λ e. subst (λ i. far_of p'' (f i) ≤ℤ way o p.prices u b (f i)) (sym e) (⊎_elim (λ (s, q). omega (linear, s.far)) (λ n. omega (linear, n.far)) r.here))
+      (λ d. let q = v.covered j (omega arith) in let y = reached_le r (f j) in omega linear);
+  each = λ l. by-same l (f k)
+      (λ e. subst (λ i. Same p p'' i ⊎ (may o u i × Nearer p p'' i (way o p.prices u b i))) (sym e) here)
+      (λ d. let s = r.others l d in ⊎_elim (λ t. inl (joined t s)) (λ (m, n). inr (m, carried n s)) (v.each l));
+}
+  where
+    joined : {l : ℕ} → Same p p' l → Same p' p'' l → Same p p'' l
+    joined t s = record { far = s.far ∙ t.far; by = s.by ∙ t.by; waits = s.waits ∙ t.waits }
+
+    carried : {l : ℕ} {z : ℤ} → Nearer p p' l z → Same p' p'' l → Nearer p p'' l z
+    carried n s = record { less = n.less; far = s.far ∙ n.far; by = s.by ∙ n.by; waits = λ h. s.waits ∙ n.waits h }
+
+    here : Same p p'' (f k) ⊎ (may o u (f k) × Nearer p p'' (f k) (way o p.prices u b (f k)))
+    here = ⊎_elim
+        (λ (s, q). ⊎_elim (λ t. inl (joined t s)) (λ (m, n). inr (m, carried n s)) (v.each (f k)))
+        (λ n. ⊎_elim
+            (λ t. inr (a, record { less = omega (linear, n.less, t.far); far = n.far; by = n.by ∙ v.kept.step; waits = n.waits }))
+            (λ (m, t). absurd (omega (linear, n.less, t.far)))
+            (v.each (f k)))
+        r.here
+
+-- all of them
+pub scanning_all : {o : Offers} {p p' : Paths} {u : ℕ} {b : ℤ} {f : ℕ → ℕ} {k : ℕ} → Scanning o p p' u b f k → ((l : ℕ) → may o u l → (j : ℕ) × (j < k) × (f j ≡ l)) → Scanned o p p' u b
+scanning_all {o} {p} {p'} {u} {b} v g = record {
+  kept = v.kept;
+  covered = λ l m. let (j, h, e) = g l m in subst (λ i. far_of p' i ≤ℤ way o p.prices u b i) e (v.covered j h);
+  each = v.each;
+}

@@ -1,0 +1,1 @@
+// All nodes placed at least total cost.

@@ -1,0 +1,138 @@
+// Shortest paths among the labels, from a node that is to be placed: over the nodes that hold labels to one that is free, or to 255.
+ghost use Rattle.std.specs.Prelude.{◌≡◌, ℕ, true, false, ◌+◌, ◌^◌, ◌≤◌, ◌<◌, ℤ, ◌+ℤ◌, ◌≤ℤ◌, slice_index_or, pos, unsigned_abs};
+ghost use Rattle.integers.specs.Words.{bit};
+ghost use Rattle.placing.specs.Words.{entry, All};
+ghost use Rattle.placing.specs.Priced.{price};
+ghost use Rattle.placing.specs.Paths.{may, far_of, paid, Kind, Row, Turn, Nearest, Reached, Scanned, Searched};
+
+use crate::offers::Offers;
+use crate::seats::Seats;
+use crate::words::{bit_of, has, lowest};
+
+// The way to a label that is not met.
+const FAR: i64 = i64::MAX;
+
+// A label's entry.
+// Kept: a function, as nothing is known of the range of a signed number that is read out of a struct's array.
+fn at(table: &[i64; 64], l: u8) -> i64
+    requires { l < 64 }
+    ensures { result ≡ slice_index_or table.now l (pos 0) }
+{
+    table[usize::from(l)]
+}
+
+// The prices of the labels, and a search for a label of least cost: step 0 is at the root, each other at the node that holds the step's label.
+// `far` is the least way to each label and `by` the step from which it comes, `home` and `home_by` the same of 255; `waiting` has the labels met from which no step went.
+#[derive(Drop)]
+pub(crate) struct Paths {
+    pub prices: [i64; 64],
+    pub far: [i64; 64],
+    pub by: [u8; 64],
+    pub labels: [u8; 64],
+    pub nodes: [u8; 64],
+    pub step: usize,
+    pub waiting: u64,
+    pub home: i64,
+    pub home_by: u8,
+}
+
+impl Paths {
+    // No label has a price.
+    pub(crate) fn new() -> Paths
+        ensures { (l : ℕ) → price result.prices l ≡ pos 0 }
+    {
+        Paths {
+            prices: [0; 64],
+            far: [FAR; 64],
+            by: [0; 64],
+            labels: [0; 64],
+            nodes: [0; 64],
+            step: 0,
+            waiting: 0,
+            home: FAR,
+            home_by: 0,
+        }
+    }
+
+    // A way from the last step to a label, but for the label's price.
+    fn reach(&mut self, l: u8, way: i64)
+        requires { Kind l × (self.old.step < 64) × (unsigned_abs way ≤ 2 ^ 60) × (unsigned_abs (price self.old.prices l) ≤ 2 ^ 50) }
+        ensures { Reached self.old self.new l (way +ℤ price self.old.prices l) }
+    {
+        // Kept: a step is below 64; `try_from` would add a case that cannot happen.
+        let step = self.step as u8;
+        if l < 64 {
+            let price = at(&self.prices, l);
+            let known = at(&self.far, l);
+            let far = way + price;
+            if far < known {
+                let label = usize::from(l);
+                self.far[label] = far;
+                self.by[label] = step;
+                self.waiting |= bit_of(l);
+            }
+        } else if way < self.home {
+            self.home = way;
+            self.home_by = step;
+        }
+    }
+
+    // The ways from the last step, which is at node `u`.
+    fn scan(&mut self, offers: &Offers, u: usize, base: i64)
+        requires { Row offers.now self.old u base }
+        ensures { Scanned offers.now self.old self.new u base }
+    {
+        let labels = offers.sheet.labels_of(u);
+        let start = offers.sheet.starts[u];
+        for (k, label) in labels.iter().enumerate() {
+            let cost = offers.costs[start + k];
+            self.reach(*label, base + cost);
+        }
+    }
+
+    // The label that waits with the least way.
+    fn nearest(&self) -> u8
+        requires { self.now.waiting ≡ 0 → ⊥ }
+        ensures { Nearest self.now result }
+    {
+        let mut best = lowest(self.waiting);
+        let mut rest = self.waiting & (self.waiting - 1);
+        while rest != 0 {
+            let l = lowest(rest);
+            if at(&self.far, l) < at(&self.far, best) {
+                best = l;
+            }
+            rest &= rest - 1;
+        }
+        best
+    }
+
+    // Step 0, at the root.
+    fn begin(&mut self, seats: &Seats, offers: &Offers, root: usize)
+        requires { Turn offers.now seats.now self.old.prices root }
+        ensures { (self.new.prices ≡ self.old.prices) × Searched offers.now seats.now self.new root 1 }
+    {
+        self.far = [FAR; 64];
+        self.home = FAR;
+        self.waiting = 0;
+        self.step = 0;
+        // Kept: a node is below 64, as in `Seats`.
+        self.nodes[0] = root as u8;
+        self.scan(offers, root, 0);
+    }
+
+    // A step more, at the node that holds the label.
+    fn go(&mut self, seats: &Seats, offers: &Offers, l: u8)
+        requires { (root : ℕ) × Turn offers.now seats.now self.old.prices root × Searched offers.now seats.now self.old root (self.old.step + 1) × Nearest self.old l × (bit seats.now.free l ≡ false) × (far_of self.old l ≤ℤ self.old.home) }
+        ensures { (root : ℕ) → Turn offers.now seats.now self.old.prices root → Searched offers.now seats.now self.old root (self.old.step + 1) → (self.new.prices ≡ self.old.prices) × (self.new.step ≡ self.old.step + 1) × Searched offers.now seats.now self.new root (self.new.step + 1) }
+    {
+        let holder = seats.holders[usize::from(l)];
+        let u = usize::from(holder);
+        let base = at(&self.far, l) - at(&self.prices, l) - offers.cost(u, l);
+        self.step += 1;
+        self.labels[self.step] = l;
+        self.nodes[self.step] = holder;
+        self.waiting ^= bit_of(l);
+        self.scan(offers, u, base);
+    }
+}
