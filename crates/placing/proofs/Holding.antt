@@ -13,7 +13,7 @@ use Rattle.integers.proofs.Places.{by-test}
 use Rattle.assignment.specs.Rows.{But, Node, Placed}
 use Rattle.placing.specs.Words.{entry, flag, opens, rows_of, All, Linked, Seated}
 use Rattle.placing.proofs.Slots.{opens_kinds, opens-bit, opens-own, same_label}
-use Rattle.placing.proofs.Linking.{linked_distinct}
+use Rattle.placing.proofs.Linking.{linked_distinct, linked_word}
 
 -- the nodes below m but the root, which takes no label, are placed
 pub record Held (sets : List ℕ) (own : List Bool) (m root : ℕ) (taken holders reach : List ℕ) (free : ℕ) : Type 0 where
@@ -39,7 +39,7 @@ module _ {sets : List ℕ} {own : List Bool} {m root : ℕ} {taken holders reach
 
   -- the word at the label of a node is the node's
   pub word_at : (u : ℕ) → u < m → entry taken u < 64 → entry reach (entry taken u) ≡ entry sets u
-  word_at u l k = (h.linked.held (entry taken u) k (h.linked.taker u (omega (arith, h.few)) k).0).2 ∙ ap (entry sets) (held_by u l k)
+  word_at u l k = linked_word h.linked u (omega (arith, h.few)) k
 
 module _ {sets : List ℕ} (own : List Bool) {taken holders reach : List ℕ} {free : ℕ} (k : Linked sets taken holders reach free) where
   -- some of the nodes

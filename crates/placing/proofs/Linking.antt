@@ -14,7 +14,7 @@ use Rattle.integers.specs.Words.{bit, Words}
 use Rattle.integers.proofs.Places.{by-test}
 use Rattle.integers.proofs.Words.{bit_full, bit_dropped, bit_kept, power_fits}
 use Rattle.assignment.proofs.Counts.{differ, by-same}
-use Rattle.placing.specs.Words.{entry, Linked, Joined}
+use Rattle.placing.specs.Words.{entry, Linked, Joined, Holds}
 use Rattle.placing.proofs.Searching.{or_fails}
 
 -- a table of words with one set
@@ -35,6 +35,20 @@ module _ {sets taken holders reach : List ℕ} {free : ℕ} (k : Linked sets tak
   -- two nodes do not take one label
   pub linked_distinct : (u w : ℕ) → u < 64 → w < 64 → entry taken u < 64 → entry taken u ≡ entry taken w → u ≡ w
   linked_distinct u w h g l e = sym (k.taker u h l).1 ∙ ap (entry holders) e ∙ (k.taker w g (omega arith)).1
+
+  -- a label is free exactly if no node takes it
+  pub free_held : (l : ℕ) → l < 64 → bit free l ≡ false → Holds taken l
+  free_held l h e = let (a, b, c) = k.held l h e in (entry holders l, a, b)
+
+  pub held_taken : (l : ℕ) → l < 64 → Holds taken l → bit free l ≡ false
+  held_taken l h (v, g, e) = ap (bit free) (sym e) ∙ (k.taker v g (omega arith)).0
+
+  pub none_free : (l : ℕ) → l < 64 → (Holds taken l → ⊥) → bit free l ≡ true
+  none_free l h f = by-test (bit free l) (λ e. e) (λ e. absurd (f (free_held l h e)))
+
+  -- the word at the label of a node is the node's
+  pub linked_word : (u : ℕ) → u < 64 → entry taken u < 64 → entry reach (entry taken u) ≡ entry sets u
+  linked_word u h l = let (f, e) = k.taker u h l in (k.held (entry taken u) l f).2 ∙ ap (entry sets) e
 
   -- u, which takes none, takes the label l, which is free
   module _ {u : ℕ} (l : ℕ) (h : u < 64) (small : l < 64) (none : 64 ≤ entry taken u) (vacant : bit free l ≡ true) (own : bit (entry sets u) l ≡ true) where

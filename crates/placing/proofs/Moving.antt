@@ -1,9 +1,9 @@
--- Moves along a trail, from the free label back to the root.
+-- The label met becomes free, and nodes move along the trail, from that label back to the root.
 -- Assumes nothing.
 use mathlib.Core.Path.{◌≡◌, refl, sym, ap, ◌∙◌, subst}
-use mathlib.Core.Bool.{true, false, ◌||◌}
+use mathlib.Core.Bool.{Bool, true, false, ◌||◌, or-false}
 use mathlib.Core.List.{List}
-use mathlib.Core.Logic.{inl, inr, ⊎_elim}
+use mathlib.Core.Logic.{◌⊎◌, inl, inr, ⊎_elim}
 use Prim.Native.Nat.{ℕ, zero, suc, ◌-◌, ◌^◌, ◌≤◌, ◌<◌}
 use native.Mathlib.Omega.{arith}
 use borrow.Author.Tests.{ne_eqb, eq-eqb}
@@ -14,10 +14,11 @@ use lib.Count.{count_trailing_zeros}
 use lib.ListN.{length, set}
 use lib.Seq.{get_or-set_same, get_or-set_other}
 use Rattle.integers.specs.Words.{bit}
-use Rattle.integers.proofs.Places.{or_split, left_true, right_true}
+use Rattle.integers.proofs.Places.{by-test, or_split, left_true, right_true}
 use Rattle.integers.proofs.Words.{bit_small, bit_dropped, bit_kept}
 use Rattle.assignment.proofs.Counts.{differ, by-same}
-use Rattle.placing.specs.Words.{entry, seen_by, Trail, Met, Joined, Linked, Stays, Asked, Rooted}
+use Rattle.placing.specs.Words.{entry, seen_by, Trail, Met, Joined, Linked, Holds, Asked, Aimed, Rooted, Vacated}
+use Rattle.placing.proofs.Linking.{free_held, held_taken}
 use Rattle.placing.proofs.Searching.{seen_later, seen_outside, both_bits, or_none_lem}
 
 -- ---- labels seen
@@ -33,20 +34,24 @@ module _ {reach : List ℕ} {free start before : ℕ} {by words : List ℕ} {cou
 
 -- ---- one move after another
 
--- The label l, found in the first i steps, is free now; no other label is that was not at the start.
-pub record Moving (sets taken reach : List ℕ) (free start before : ℕ) (by words : List ℕ) (count root : ℕ) (taken' holders' reach' : List ℕ) (free' l i : ℕ) : Type 0 where
+-- nodes but the root stay where they are, unless they took a label that is none of `before`
+abbrev Shifts : ℕ → ℕ → List ℕ → List ℕ → Type 0
+Shifts before root taken taken' = (w : ℕ) → (w ≡ root → ⊥) → (entry taken' w ≡ entry taken w) ⊎ ((entry taken w < 64) × (bit before (entry taken w) ≡ false) × (entry taken' w < 64))
+
+-- The label l, found in the first i steps, is free now; no other label is that was not at the start, nor the one that was met.
+pub record Moving (sets taken reach : List ℕ) (free start before : ℕ) (by words : List ℕ) (count label root : ℕ) (taken' holders' reach' : List ℕ) (free' l i : ℕ) : Type 0 where
   pub within : i ≤ count
   pub found : seen_by start words i l ≡ true
   pub apart : (t : ℕ) → t < i → entry by t ≡ l → ⊥
   pub same : (t : ℕ) → t < i → entry reach' (entry by t) ≡ entry reach (entry by t)
-  pub stays : Stays before root taken taken'
+  pub stays : Shifts before root taken taken'
   pub unplaced : 64 ≤ entry taken' root
   pub linked : Linked sets taken' holders' reach' free'
   pub here : bit free' l ≡ true
-  pub held : (x : ℕ) → x < 64 → bit free x ≡ false → (x ≡ l → ⊥) → bit free' x ≡ false
+  pub held : (x : ℕ) → x < 64 → (bit free x ≡ false) ⊎ (x ≡ label) → (x ≡ l → ⊥) → bit free' x ≡ false
 
 module _ {sets taken reach : List ℕ} {free start before : ℕ} {by words : List ℕ} {count label root : ℕ} (a : Asked sets taken start before root) (m : Met reach free start before by words count label) where
-  pub moving_none : {holders : List ℕ} → Linked sets taken holders reach free → Moving sets taken reach free start before by words count root taken holders reach free label count
+  pub moving_none : {holders : List ℕ} → Linked sets taken holders reach free → Moving sets taken reach free start before by words count label root taken holders reach free label count
   moving_none k = record {
     within = omega arith;
     found = m.met;
@@ -56,15 +61,15 @@ module _ {sets taken reach : List ℕ} {free start before : ℕ} {by words : Lis
     unplaced = a.unplaced;
     linked = k;
     here = m.free_label;
-    held = λ x h e d. e;
+    held = λ x h e d. ⊎_elim (λ f. f) (λ q. absurd (d q)) e;
   }
 
-  module _ {taken' holders' reach' : List ℕ} {free' l i : ℕ} (v : Moving sets taken reach free start before by words count root taken' holders' reach' free' l i) where
+  module _ {taken' holders' reach' : List ℕ} {free' l i : ℕ} (v : Moving sets taken reach free start before by words count label root taken' holders' reach' free' l i) where
     pub moving_small : l < 64
     moving_small = seen_small m.trail i l v.within v.found
 
     -- the label was not found in the last of the steps
-    pub moving_past : 0 < i → bit (entry words (i - 1)) l ≡ false → Moving sets taken reach free start before by words count root taken' holders' reach' free' l (i - 1)
+    pub moving_past : 0 < i → bit (entry words (i - 1)) l ≡ false → Moving sets taken reach free start before by words count label root taken' holders' reach' free' l (i - 1)
     moving_past h e = record {
       within = omega (arith, v.within);
       found = ⊎_elim (λ q. q) (λ q. absurd (differ q e)) (or_split (seen_by start words (i - 1) l) (bit (entry words (i - 1)) l) (sym (seen_step start words i l h) ∙ v.found));
@@ -99,7 +104,7 @@ module _ {sets taken reach : List ℕ} {free start before : ℕ} {by words : Lis
 
       module _ {h' : ℕ} (holds : h' ≡ entry holders' from) where
         holder : (h' < 64) × (entry taken' h' ≡ from) × (entry reach' from ≡ entry sets h')
-        holder = subst (λ x. (x < 64) × (entry taken' x ≡ from) × (entry reach' from ≡ entry sets x)) (sym holds) (v.linked.held from from_small (v.held from from_small begun_from.1 other))
+        holder = subst (λ x. (x < 64) × (entry taken' x ≡ from) × (entry reach' from ≡ entry sets x)) (sym holds) (v.linked.held from from_small (v.held from from_small (inl begun_from.1) other))
 
         pub holder_few : h' < 64
         holder_few = holder.0
@@ -122,7 +127,7 @@ module _ {sets taken reach : List ℕ} {free start before : ℕ} {by words : Lis
           still_free = mid_is l moving_small ∙ left_true (eqb l from) v.here
 
           pub moving_more : {taken'' holders'' reach'' : List ℕ} {free'' : ℕ} → taken'' ≡ set (set taken' h' 255) h' l → reach'' ≡ set reach' l (entry sets h') → free'' ≡ bit_xor mid (2 ^ l)
-              → Linked sets taken'' holders'' reach'' free'' → Moving sets taken reach free start before by words count root taken'' holders'' reach'' free'' from (i - 1)
+              → Linked sets taken'' holders'' reach'' free'' → Moving sets taken reach free start before by words count label root taken'' holders'' reach'' free'' from (i - 1)
           moving_more {taken''} {holders''} {reach''} {free''} et er ef k = record {
             within = omega (arith, v.within);
             found = begun_from.0;
@@ -159,28 +164,95 @@ module _ {sets taken reach : List ℕ} {free start before : ℕ} {by words : Lis
       pub root_has : bit (entry sets root) l ≡ true
       root_has = (a.labels l begun).0
 
-      pub moving_done : {taken'' : List ℕ} → taken'' ≡ set taken' root l → Rooted taken start before root taken''
-      moving_done {taken''} e = subst (Rooted taken start before root) (sym e) (record {
-        rooted = rw (get_or-set_same taken' root l 0 (omega (arith, a.node, v.linked.size_taken))) begun;
-        stays = λ w d. let o = get_or-set_other taken' root w l 0 d in ⊎_elim (λ q. inl (o ∙ q)) (λ (x, y, q). inr (x, y, rw o q)) (v.stays w d);
+      pub moving_done : {own : List Bool} {holders : List ℕ} → Linked sets taken holders reach free → {taken'' : List ℕ} → taken'' ≡ set taken' root l → Rooted own taken start before root label taken''
+      moving_done {own} k {taken''} e = subst (Rooted own taken start before root label) (sym e) (record {
+        rooted = rw at begun;
+        stays = λ w d. let o = elsewhere w d in ⊎_elim (λ q. inl (o ∙ q)) (λ (x, y, q). inr (x, y, inl (rw o q))) (v.stays w d);
+        kept = λ x g q. by-same x l
+            (λ y. (root, a.node, at ∙ sym y))
+            (λ y. let (b, c, f) = v.linked.held x g (v.held x g (⊎_elim (λ (w, small, z). inl (ap (bit free) (sym z) ∙ (k.taker w small (omega arith)).0)) (λ z. inr z) q) y) in
+            (entry holders' x, b, elsewhere (entry holders' x) (λ z. let n = ap (entry taken') z in omega (arith, v.unplaced)) ∙ c));
       })
+        where
+          at : entry (set taken' root l) root ≡ l
+          at = get_or-set_same taken' root l 0 (omega (arith, a.node, v.linked.size_taken))
 
--- a label of `start` is free: the root takes it
-module _ {sets taken : List ℕ} (free : ℕ) {start before root : ℕ} (a : Asked sets taken start before root) (fit : start < 2 ^ 64) (z : bit_and start free ≡ 0 → ⊥) {l : ℕ} (q : l ≡ count_trailing_zeros 64 (bit_and start free)) where
+          elsewhere : (w : ℕ) → (w ≡ root → ⊥) → entry (set taken' root l) w ≡ entry taken' w
+          elsewhere w d = get_or-set_other taken' root w l 0 d
+
+-- ---- the label met is free, or its holder leaves it
+
+-- all free labels are goals, and no others
+pub aimed_free : {sets taken holders reach : List ℕ} {free : ℕ} → Linked sets taken holders reach free → (own : List Bool) (before : ℕ) → Aimed own taken free before
+aimed_free k own before = record {
+  held = λ l h e _. free_held k l h e;
+  loose = λ v h s e. absurd (differ e (k.taker v h s).0);
+}
+
+module _ {sets : List ℕ} {own : List Bool} {taken : List ℕ} {free start before goals root l : ℕ} {taken' : List ℕ} {free' : ℕ}
+    (a : Asked sets taken start before root) (aim : Aimed own taken goals before) (meets : bit goals l ≡ true) (outside : bit before l ≡ false) (small : l < 64) (v : Vacated taken free l taken' free') where
+  pub vacated_asked : Asked sets taken' start before root
+  vacated_asked = record { node = a.node; unplaced = ⊎_elim (λ q. let u = a.unplaced in omega arith) (λ (x, y, z). omega arith) (v.left root); labels = a.labels }
+
+  pub vacated_free : bit free' l ≡ true
+  vacated_free = v.joined.1 l small ∙ right_true (bit free l) (eq-eqb l l refl)
+
+  -- a label on the trail is none of the goals, and so is still taken
+  pub vacated_met : {holders reach by words : List ℕ} {count : ℕ} → Linked sets taken holders reach free → Met reach goals start before by words count l → Met reach free' start before by words count l
+  vacated_met {by = by} {words} {count} k m = record {
+    trail = record {
+      few = m.trail.few;
+      size_by = m.trail.size_by;
+      size_words = m.trail.size_words;
+      small = m.trail.small;
+      begins = m.trail.begins;
+      from = λ t h. let (s, e) = m.trail.from t h in
+          let g = seen_small m.trail t (entry by t) (omega (arith, m.trail.few)) s in
+          (s, v.joined.1 (entry by t) g ∙ or_none_lem (held_taken k (entry by t) g (aim.held (entry by t) g e (seen_outside m.trail t (entry by t) (omega arith) s)))
+          (ne_eqb (entry by t) l (λ q. differ meets (ap (bit goals) (sym q) ∙ e))));
+      once = m.trail.once;
+      leads = m.trail.leads;
+    };
+    met = m.met;
+    free_label = vacated_free;
+  }
+
+  pub vacated_rooted : length taken ≡ 64 → {taken'' : List ℕ} → Rooted own taken' start before root l taken'' → Rooted own taken start before root l taken''
+  vacated_rooted long {taken''} r = record {
+    rooted = r.rooted;
+    stays = λ w d. ⊎_elim
+        (λ q. ⊎_elim (λ z. inl (z ∙ q)) (λ (x, y, z). inr (rw q at x, rw q at y, z)) (r.stays w d))
+        (λ (x, y, z). ⊎_elim (λ q. inr (rw y small, rw y outside, inr (q ∙ z, aim.loose w x (rw y small) (rw y meets)))) (λ (b, c, e). absurd (omega arith)) (r.stays w d))
+        (v.left w);
+    kept = λ x h q. r.kept x h (⊎_elim (λ (w, g, e). ⊎_elim (λ f. inl (w, g, f ∙ e)) (λ (b, c, f). inr (sym e ∙ c)) (v.left w)) (λ e. inr e) q);
+  }
+
+-- a label of `start` is a goal: the root takes it
+module _ {sets taken : List ℕ} (goals : ℕ) {start before root : ℕ} (a : Asked sets taken start before root) (fit : start < 2 ^ 64) (z : bit_and start goals ≡ 0 → ⊥) {l : ℕ} (q : l ≡ count_trailing_zeros 64 (bit_and start goals)) where
   begins : bit start l ≡ true
-  begins = ap (bit start) q ∙ (both_bits start free fit z).0
+  begins = ap (bit start) q ∙ (both_bits start goals fit z).0
 
   pub once_small : l < 64
   once_small = bit_small start l fit begins
 
-  pub once_free : bit free l ≡ true
-  once_free = ap (bit free) q ∙ (both_bits start free fit z).1
+  pub once_met : bit goals l ≡ true
+  once_met = ap (bit goals) q ∙ (both_bits start goals fit z).1
 
   pub once_has : bit (entry sets root) l ≡ true
   once_has = (a.labels l begins).0
 
-  pub once_rooted : length taken ≡ 64 → {taken' : List ℕ} → taken' ≡ set taken root l → Rooted taken start before root taken'
-  once_rooted long e = subst (Rooted taken start before root) (sym e) (record {
-    rooted = rw (get_or-set_same taken root l 0 (omega (arith, a.node))) begins;
-    stays = λ w d. inl (get_or-set_other taken root w l 0 d);
+  pub once_outside : bit before l ≡ false
+  once_outside = (a.labels l begins).1
+
+  pub once_rooted : {own : List Bool} {taken' : List ℕ} → length taken ≡ 64 → taken' ≡ set taken root l → Rooted own taken start before root l taken'
+  once_rooted {own} {taken'} long e = subst (Rooted own taken start before root l) (sym e) (record {
+    rooted = rw at begins;
+    stays = λ w d. inl (elsewhere w d);
+    kept = λ x h g. by-same x l (λ y. (root, a.node, at ∙ sym y)) (λ y. ⊎_elim (λ (w, f, b). (w, f, elsewhere w (λ n. let m = ap (entry taken) n in omega (arith, a.unplaced)) ∙ b)) (λ b. absurd (y b)) g);
   })
+    where
+      at : entry (set taken root l) root ≡ l
+      at = get_or-set_same taken root l 0 (omega (arith, a.node, long))
+
+      elsewhere : (w : ℕ) → (w ≡ root → ⊥) → entry (set taken root l) w ≡ entry taken w
+      elsewhere w d = get_or-set_other taken root w l 0 d

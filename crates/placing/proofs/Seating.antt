@@ -30,10 +30,10 @@ module _ {sets : List ℕ} {own : List Bool} {taken holders reach : List ℕ} {f
   seated_unplaced = let e = s.later u (omega arith) few in omega arith
 
   -- a chain places it
-  pub seated_more : {taken' : List ℕ} → flag own u ≡ false → Rooted taken (entry sets u) 0 u taken' → Seated own 0 (u + 1) taken'
-  seated_more {taken'} o r = record {
+  pub seated_more : {met : ℕ} {taken' : List ℕ} → flag own u ≡ false → Rooted own taken (entry sets u) 0 u met taken' → Seated own 0 (u + 1) taken'
+  seated_more {taken' = taken'} o r = record {
     seat = λ w g z. by-same w u (λ q. absurd (let b = bit_small (entry sets u) (entry taken' u) (k.fit_sets u) r.rooted in omega (arith, ap (entry taken') q)))
-        (λ q. ⊎_elim (λ e. rw e (s.seat w (omega arith) (omega arith))) (λ (x, y, v). absurd (omega arith)) (r.stays w q));
+        (λ q. ⊎_elim (λ e. rw e (s.seat w (omega arith) (omega arith))) (λ (x, y, v). ⊎_elim (λ f. absurd (omega arith)) (λ f. f) v) (r.stays w q));
     later = λ w g l. ⊎_elim (λ e. e ∙ s.later w (omega arith) l) (λ (x, y, v). absurd (omega (arith, s.later w (omega arith) l))) (r.stays w (λ q. omega arith));
     vacant = λ w g l e. ⊎_elim (λ z. z ∙ s.vacant w g l e) (λ (x, y, v). absurd (omega (arith, s.vacant w g l e))) (r.stays w (λ q. differ (ap (flag own) (sym q) ∙ e) o));
   }

@@ -128,9 +128,14 @@ pub record Linked (sets taken holders reach : List ℕ) (free : ℕ) : Type 0 wh
   pub taker : (u : ℕ) → u < 64 → entry taken u < 64 → (bit free (entry taken u) ≡ false) × (entry holders (entry taken u) ≡ u)
   pub held : (l : ℕ) → l < 64 → bit free l ≡ false → (entry holders l < 64) × (entry taken (entry holders l) ≡ l) × (entry reach l ≡ entry sets (entry holders l))
 
--- nodes but the root stay where they are, unless they took a label that is none of `before`
-abbrev pub Stays : ℕ → ℕ → List ℕ → List ℕ → Type 0
-Stays before root taken taken' = (w : ℕ) → (w ≡ root → ⊥) → (entry taken' w ≡ entry taken w) ⊎ ((entry taken w < 64) × (bit before (entry taken w) ≡ false) × (entry taken' w < 64))
+-- some node takes the label
+abbrev pub Holds : List ℕ → ℕ → Type 0
+Holds taken l = (v : ℕ) × (v < 64) × (entry taken v ≡ l)
+
+-- nodes but the root stay where they are, unless they left a label that is none of `before`: for another, or for 255, which they have
+abbrev pub Stays : List Bool → ℕ → ℕ → List ℕ → List ℕ → Type 0
+Stays own before root taken taken' = (w : ℕ) → (w ≡ root → ⊥) → (entry taken' w ≡ entry taken w)
+    ⊎ ((entry taken w < 64) × (bit before (entry taken w) ≡ false) × ((entry taken' w < 64) ⊎ ((entry taken' w ≡ 255) × (flag own w ≡ true))))
 
 -- the root, which takes none, is to take a label of its word that is in `start` and not in `before`
 pub record Asked (sets taken : List ℕ) (start before root : ℕ) : Type 0 where
@@ -138,10 +143,21 @@ pub record Asked (sets taken : List ℕ) (start before root : ℕ) : Type 0 wher
   pub unplaced : 64 ≤ entry taken root
   pub labels : (l : ℕ) → bit start l ≡ true → (bit (entry sets root) l ≡ true) × (bit before l ≡ false)
 
--- the root takes a label of `start`, and others shift
-pub record Rooted (taken : List ℕ) (start before root : ℕ) (taken' : List ℕ) : Type 0 where
+-- a search is done at one of `goals`: a node that takes one of them has 255; each label that is none of them and none of `before` is taken
+pub record Aimed (own : List Bool) (taken : List ℕ) (goals before : ℕ) : Type 0 where
+  pub held : (l : ℕ) → l < 64 → bit goals l ≡ false → bit before l ≡ false → Holds taken l
+  pub loose : (v : ℕ) → v < 64 → entry taken v < 64 → bit goals (entry taken v) ≡ true → flag own v ≡ true
+
+-- the root takes a label of `start`, and others shift: what was taken is, and so is the label met
+pub record Rooted (own : List Bool) (taken : List ℕ) (start before root met : ℕ) (taken' : List ℕ) : Type 0 where
   pub rooted : bit start (entry taken' root) ≡ true
-  pub stays : Stays before root taken taken'
+  pub stays : Stays own before root taken taken'
+  pub kept : (l : ℕ) → l < 64 → Holds taken l ⊎ (l ≡ met) → Holds taken' l
+
+-- the node that took l, if one did, has left it
+pub record Vacated (taken : List ℕ) (free l : ℕ) (taken' : List ℕ) (free' : ℕ) : Type 0 where
+  pub joined : Joined free l free'
+  pub left : (w : ℕ) → (entry taken' w ≡ entry taken w) ⊎ ((w < 64) × (entry taken w ≡ l) × (entry taken' w ≡ 255))
 
 -- of the nodes below m one that takes no label below 64 has 255 and takes that; those from m on take none; those from `since` on that have 255 take it
 pub record Seated (own : List Bool) (since m : ℕ) (taken : List ℕ) : Type 0 where
@@ -151,18 +167,71 @@ pub record Seated (own : List Bool) (since m : ℕ) (taken : List ℕ) : Type 0 
 
 -- ---- the smallest placing
 
--- All nodes are seated, and those below u where they are to be: no placing that agrees on the nodes below one of these gives it a lower label. `closed` has their labels.
-pub record Lowered (n : ℕ) (sets : List ℕ) (own : List Bool) (taken : List ℕ) (closed u : ℕ) : Type 0 where
-  pub within : u ≤ n
-  pub few : n ≤ 64
-  pub seated : Seated own u n taken
-  pub settled : Settled (All n sets own) (entry taken) u
+-- `closed` has the labels that the nodes below u take
+pub record Below (closed u : ℕ) (taken : List ℕ) : Type 0 where
   pub fit : closed < 2 ^ 64
   pub shut : (w : ℕ) → w < u → entry taken w < 64 → bit closed (entry taken w) ≡ true
   pub only : (l : ℕ) → bit closed l ≡ true → (v : ℕ) × (v < u) × (entry taken v ≡ l)
 
+-- each label that is not of `idle` is taken
+abbrev pub Filled : ℕ → List ℕ → Type 0
+Filled idle taken = (l : ℕ) → l < 64 → bit idle l ≡ false → Holds taken l
+
+-- All nodes are seated, each label that is not of `idle` is taken, and the nodes below u are where they are to be: no placing that agrees on the nodes below one of these gives it a lower label.
+pub record Lowered (n : ℕ) (sets : List ℕ) (own : List Bool) (idle : ℕ) (taken : List ℕ) (closed u : ℕ) : Type 0 where
+  pub within : u ≤ n
+  pub few : n ≤ 64
+  pub seated : Seated own 64 n taken
+  pub filled : Filled idle taken
+  pub settled : Settled (Full n sets own idle) (entry taken) u
+  pub under : Below closed u taken
+
 -- u too is where it is to be, and those below it stay
-pub record Lowest (n : ℕ) (sets : List ℕ) (own : List Bool) (taken : List ℕ) (u : ℕ) (taken' : List ℕ) : Type 0 where
-  pub seated : Seated own (u + 1) n taken'
-  pub settled : Settled (All n sets own) (entry taken') (u + 1)
+pub record Lowest (n : ℕ) (sets : List ℕ) (own : List Bool) (idle : ℕ) (taken : List ℕ) (u : ℕ) (taken' : List ℕ) : Type 0 where
+  pub seated : Seated own 64 n taken'
+  pub filled : Filled idle taken'
+  pub settled : Settled (Full n sets own idle) (entry taken') (u + 1)
   pub same : (w : ℕ) → w < u → entry taken' w ≡ entry taken w
+
+-- the nodes that have 255 are below `end`
+pub record Owned (n : ℕ) (own : List Bool) (end : ℕ) : Type 0 where
+  pub within : end ≤ n
+  pub none : (w : ℕ) → w < n → end ≤ w → flag own w ≡ false
+
+-- u takes none, and all others are seated; each label that is not of `idle` is taken, but for the one that is owed, which is not
+pub record Out (n : ℕ) (own : List Bool) (idle owed u : ℕ) (taken : List ℕ) : Type 0 where
+  pub none : entry taken u ≡ 255
+  pub seat : (w : ℕ) → w < n → (w ≡ u → ⊥) → 64 ≤ entry taken w → (entry taken w ≡ 255) × (flag own w ≡ true)
+  pub later : (w : ℕ) → n ≤ w → w < 64 → entry taken w ≡ 255
+  pub filled : (l : ℕ) → l < 64 → bit idle l ≡ false → (l ≡ owed → ⊥) → Holds taken l
+  pub gone : (v : ℕ) → v < 64 → entry taken v < 64 → entry taken v ≡ owed → ⊥
+
+-- labels that searches saw which met none of `goals`: from one that is not of `before` its holder could go to no other than these
+pub record Barren (sets taken : List ℕ) (goals before seen : ℕ) : Type 0 where
+  pub fit : seen < 2 ^ 64
+  pub more : (l : ℕ) → bit before l ≡ true → bit seen l ≡ true
+  pub apart : (l : ℕ) → bit seen l ≡ true → bit before l ≡ false → bit goals l ≡ false
+  pub exits : (v k : ℕ) → v < 64 → entry taken v < 64 → bit seen (entry taken v) ≡ true → bit before (entry taken v) ≡ false → bit (entry sets v) k ≡ true → bit seen k ≡ true
+
+-- u took the lowest label from which a search met one of `goals`, or there is none: its lower labels are barren
+pub record Tried (sets : List ℕ) (own : List Bool) (taken : List ℕ) (goals before u : ℕ) (taken' : List ℕ) : Type 0 where
+  pub seen : ℕ
+  pub barren : Barren sets taken goals before seen
+  pub lower : (x : ℕ) → bit (entry sets u) x ≡ true → x < entry taken' u → bit seen x ≡ true
+  pub outcome : (taken' ≡ taken) ⊎ ((met : ℕ) × (bit goals met ≡ true) × Rooted own taken (entry sets u) seen u met taken')
+
+-- x could leave its label for no other from which a search met one of `goals`: all that it leads to was seen
+pub record Passed (sets taken : List ℕ) (goals before x seen : ℕ) : Type 0 where
+  pub fit : seen < 2 ^ 64
+  pub more : (l : ℕ) → bit before l ≡ true → bit seen l ≡ true
+  pub apart : (l : ℕ) → bit seen l ≡ true → bit before l ≡ false → (l ≡ entry taken x → ⊥) → bit goals l ≡ false
+  pub exits : (v k : ℕ) → v < 64 → (v ≡ x → ⊥) → entry taken v < 64 → bit seen (entry taken v) ≡ true → bit before (entry taken v) ≡ false → bit (entry sets v) k ≡ true → bit seen k ≡ true
+  pub all : (k : ℕ) → bit (entry sets x) k ≡ true → bit seen k ≡ true
+
+-- None of the nodes from u + 1 on and below m that could leave its label, for another or from 255, can do so for the label owed: all that they lead to was seen, and the owed label was not.
+pub record Spent (sets taken : List ℕ) (idle owed u m before seen : ℕ) : Type 0 where
+  pub fit : seen < 2 ^ 64
+  pub more : (l : ℕ) → bit before l ≡ true → bit seen l ≡ true
+  pub apart : bit seen owed ≡ false
+  pub exits : (v k : ℕ) → u < v → v < 64 → entry taken v < 64 → bit seen (entry taken v) ≡ true → bit (entry sets v) k ≡ true → bit seen k ≡ true
+  pub shut : (v k : ℕ) → u < v → v < m → (entry taken v < 64 → bit idle (entry taken v) ≡ true) → bit (entry sets v) k ≡ true → bit seen k ≡ true

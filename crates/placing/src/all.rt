@@ -27,7 +27,7 @@ impl<'a> Seats<'a> {
             if vanishes {
                 continue;
             }
-            if let Err(seen) = self.chain(self.nodes.sets[u], 0, u, &mut steps) {
+            if let Err(seen) = self.chain(self.nodes.sets[u], 0, self.free, u, &mut steps) {
                 return Err(Unplaced {
                     root: u,
                     seen,

@@ -5,6 +5,7 @@ mod all;
 mod answer;
 mod assigning;
 mod assign;
+mod filling;
 mod greedy;
 mod lowering;
 mod moves;

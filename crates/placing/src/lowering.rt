@@ -1,45 +1,107 @@
-// The smallest placing: node by node, the lowest label with which all nodes can be placed, those below staying where they are.
-ghost use Rattle.std.specs.Prelude.{◌≡◌, ◌<◌};
+// The smallest placing: node by node, the lowest label with which all nodes can be placed, those below staying where they are. Some labels may have to be taken.
+ghost use Rattle.std.specs.Prelude.{◌≡◌, true, false, ℕ, ◌+◌, ◌≤◌, ◌<◌, ◌^◌, IfOk, IfErr};
 ghost use Rattle.assignment.specs.First.{First};
-ghost use Rattle.placing.specs.Words.{entry, All, Seated, Lowered, Lowest};
+ghost use Rattle.integers.specs.Words.{bit};
+ghost use Rattle.placing.specs.Words.{entry, flag, Full, Seated, Holds, Aimed, Below, Lowered, Lowest, Owned, Out, Tried};
 
 use crate::search::Steps;
 use crate::seats::Seats;
-use crate::words::{bit_of, lowest_below, with_label};
+use crate::tables::Nodes;
+use crate::words::{bit_of, has, has_below, lowest, with_label};
+
+// What a node is lowered under: the labels of the nodes below it stay theirs; labels that may stay free; and the nodes that have 255 are below `end`.
+#[derive(Drop)]
+pub(crate) struct Terms {
+    pub closed: u64,
+    pub idle: u64,
+    pub end: usize,
+}
+
+// One more than the last node that has 255, and 0 where none has it.
+fn owners_end(nodes: &Nodes) -> usize
+    ensures { Owned nodes.now.count nodes.now.own result }
+{
+    let mut end = 0;
+    for u in 0..nodes.count {
+        let next = u + 1;
+        if nodes.own[u] {
+            end = next;
+        }
+    }
+    end
+}
 
 impl<'a> Seats<'a> {
-    // Lets node `u` take the lowest of its labels with which all nodes can be placed. Labels of `closed` are taken by nodes below it.
-    fn lower(&mut self, u: usize, closed: u64, steps: &mut Steps)
-        requires { Lowered self.old.nodes.now.count self.old.nodes.now.sets self.old.nodes.now.own self.old.taken closed u × (u < self.old.nodes.now.count) }
-        ensures same { self.new.nodes.now ≡ self.old.nodes.now }
-        ensures lowest { Lowest self.old.nodes.now.count self.old.nodes.now.sets self.old.nodes.now.own self.old.taken u self.new.taken }
+    // The labels that nodes above `u` take and can leave, as they have 255.
+    fn loose(&self, u: usize, end: usize) -> u64
+        requires { (u < 64) × Owned self.now.nodes.now.count self.now.nodes.now.own end }
+        ensures only { (l : ℕ) → bit result l ≡ true → (w : ℕ) × (w < 64) × (u < w) × (entry self.now.taken w ≡ l) × (flag self.now.nodes.now.own w ≡ true) }
+        ensures all { (w : ℕ) → u < w → w < self.now.nodes.now.count → flag self.now.nodes.now.own w ≡ true → entry self.now.taken w < 64 → bit result (entry self.now.taken w) ≡ true }
     {
-        let label = self.taken[u];
-        self.leave(u);
-        let mut seen = closed;
+        let mut loose = 0;
+        for w in u + 1..end {
+            if self.nodes.own[w] {
+                loose = with_label(loose, self.taken[w]);
+            }
+        }
+        loose
+    }
+
+    // Node `u`, which takes none, takes the lowest of its labels from which a search meets one of `goals`, if there is one. No label of `before` is touched.
+    fn settle(&mut self, u: usize, goals: u64, before: u64, steps: &mut Steps)
+        requires { (u < 64) × (64 ≤ entry self.old.taken u) × Aimed self.old.nodes.now.own self.old.taken goals before }
+        ensures same { self.new.nodes.now ≡ self.old.nodes.now }
+        ensures tried { Tried self.old.nodes.now.sets self.old.nodes.now.own self.old.taken goals before u self.new.taken }
+    {
+        let mut seen = before;
         let mut rest = (self.nodes.sets[u] | seen) ^ seen;
         // Kept: no range and no iterator, as each turn takes from the rest all that it saw.
-        while let Some(l) = lowest_below(rest, label) {
-            match self.chain(bit_of(l), seen, u, steps) {
+        while rest != 0 {
+            let l = lowest(rest);
+            match self.chain(bit_of(l), seen, goals, u, steps) {
                 Ok(()) => return,
                 Err(more) => seen = more,
             }
             rest = (rest | seen) ^ seen;
         }
-        if label < 64 {
-            self.give(u, label);
+    }
+
+    // Lets node `u` take the lowest of its labels with which all nodes can be placed and all labels taken that are not of `idle`.
+    // Where its label may not stay free and no other node can take it, only what leads to that label will do; else each label that is free, or that its node can leave.
+    fn lower(&mut self, u: usize, terms: &Terms, steps: &mut Steps)
+        requires { Lowered self.old.nodes.now.count self.old.nodes.now.sets self.old.nodes.now.own terms.now.idle self.old.taken terms.now.closed u
+            × (u < self.old.nodes.now.count) × Owned self.old.nodes.now.count self.old.nodes.now.own terms.now.end }
+        ensures same { self.new.nodes.now ≡ self.old.nodes.now }
+        ensures lowest { Lowest self.old.nodes.now.count self.old.nodes.now.sets self.old.nodes.now.own terms.now.idle self.old.taken u self.new.taken }
+    {
+        let label = self.taken[u];
+        let closed = terms.closed;
+        if !has_below((self.nodes.sets[u] | closed) ^ closed, label) {
+            return;
         }
+        self.leave(u);
+        if label < 64 && !has(terms.idle, label) {
+            if let Err(seen) = self.fill(u, label, terms, steps) {
+                self.settle(u, bit_of(label), seen, steps);
+                return;
+            }
+        }
+        let goals = self.free | self.loose(u, terms.end);
+        self.settle(u, goals, closed, steps);
     }
 
     // The same for all nodes in order.
-    pub(crate) fn lower_all(&mut self)
-        requires { Seated self.old.nodes.now.own 0 self.old.nodes.now.count self.old.taken }
-        ensures { First (All self.old.nodes.now.count self.old.nodes.now.sets self.old.nodes.now.own) self.old.nodes.now.count (entry self.new.taken) }
+    pub(crate) fn lower_all(&mut self, idle: u64)
+        requires seated { Seated self.old.nodes.now.own 64 self.old.nodes.now.count self.old.taken }
+        requires filled { (l : ℕ) → l < 64 → bit idle l ≡ false → bit self.old.free l ≡ false }
+        ensures { First (Full self.old.nodes.now.count self.old.nodes.now.sets self.old.nodes.now.own idle) self.old.nodes.now.count (entry self.new.taken) }
     {
+        let end = owners_end(self.nodes);
         let mut closed = 0;
         let mut steps = Steps::new();
         for u in 0..self.nodes.count {
-            self.lower(u, closed, &mut steps);
+            let terms = Terms { closed, idle, end };
+            self.lower(u, &terms, &mut steps);
             closed = with_label(closed, self.taken[u]);
         }
     }

@@ -1,4 +1,4 @@
-// The search for a free label, layer by layer.
+// The search for a label, layer by layer.
 ghost use Rattle.std.specs.Prelude.{◌≡◌, true, false, ℕ, MatchResult};
 ghost use Rattle.std.specs.Int.Bits.{bit_and};
 ghost use Rattle.integers.specs.Words.{bit};
@@ -25,7 +25,7 @@ impl Steps {
     }
 }
 
-// The free label that a search met, and after how many steps.
+// The label that a search met, and after how many steps.
 #[derive(Clone, Copy)]
 pub(crate) struct Meeting {
     pub label: u8,
@@ -33,12 +33,17 @@ pub(crate) struct Meeting {
 }
 
 impl<'a> Seats<'a> {
-    // Goes from the labels of `start`, none of which is free, layer by layer to one that is. Labels of `before` are passed over. Where none is met, the labels seen.
-    pub(crate) fn search(&self, start: u64, before: u64, steps: &mut Steps) -> Result<Meeting, u64>
-        requires { (bit_and start self.now.free ≡ 0) × ((l : ℕ) → bit start l ≡ true → bit before l ≡ false) }
-        ensures { MatchResult result (λ met. Met self.now.reach self.now.free start before steps.new.by steps.new.words met.count met.label) (λ seen. Ended self.now.reach self.now.free start before seen) }
+    // Goes from the labels of `start`, none of which is of `goals`, layer by layer to one that is. Labels of `before` are passed over. Where none is met, the labels seen.
+    pub(crate) fn search(
+        &self,
+        goals: u64,
+        start: u64,
+        before: u64,
+        steps: &mut Steps,
+    ) -> Result<Meeting, u64>
+        requires { (bit_and start goals ≡ 0) × ((l : ℕ) → bit start l ≡ true → bit before l ≡ false) }
+        ensures { MatchResult result (λ met. Met self.now.reach goals start before steps.new.by steps.new.words met.count met.label) (λ seen. Ended self.now.reach goals start before seen) }
     {
-        let free = self.free;
         let mut seen = before | start;
         let mut layer = start;
         let mut next = 0u64;
@@ -51,7 +56,7 @@ impl<'a> Seats<'a> {
             steps.by[count] = l;
             steps.words[count] = new;
             count += 1;
-            let met = new & free;
+            let met = new & goals;
             if met != 0 {
                 let label = lowest(met);
                 return Ok(Meeting { label, count });

@@ -18,6 +18,6 @@ pub(crate) fn smallest(nodes: &Nodes) -> Result<[u8; 64], Unplaced>
     }
     let mut seats = Seats::new(nodes);
     seats.place_all()?;
-    seats.lower_all();
+    seats.lower_all(u64::MAX);
     Ok(seats.taken)
 }

@@ -1,6 +1,6 @@
 // Sets of labels as the bits of a word.
 // Kept: a word is a plain u64, since the tables of words and every law of them (`Words`, `entry`, `bit`) are of numbers; a struct around it would be opened at each place.
-ghost use Rattle.std.specs.Prelude.{◌≡◌, true, ℕ, ◌^◌, ◌<◌, ◌≤◌, MatchOption};
+ghost use Rattle.std.specs.Prelude.{◌≡◌, true, false, ℕ, ◌^◌, ◌<◌, ◌≤◌};
 ghost use Rattle.std.specs.Int.Count.{count_trailing_zeros};
 ghost use Rattle.integers.specs.Words.{bit};
 ghost use Rattle.placing.specs.Words.{Joined};
@@ -30,15 +30,11 @@ pub(crate) fn lowest(word: u64) -> u8
     u64::trailing_zeros(word) as u8
 }
 
-// The lowest label of a word, if it is lower than the one that is given.
-pub(crate) fn lowest_below(word: u64, label: u8) -> Option<u8>
-    ensures { MatchOption result ((x : ℕ) → bit word x ≡ true → label ≤ x) (λ l. (word ≡ 0 → ⊥) × (l ≡ count_trailing_zeros 64 word)) }
+// Whether the word has a label below the one that is given.
+pub(crate) fn has_below(word: u64, label: u8) -> bool
+    ensures { result ≡ false → (x : ℕ) → bit word x ≡ true → label ≤ x }
 {
-    if word == 0 {
-        return None;
-    }
-    let l = lowest(word);
-    if l < label { Some(l) } else { None }
+    word != 0 && lowest(word) < label
 }
 
 // A word with a label more; none for 255.

@@ -4,6 +4,7 @@ use mathlib.Core.Path.{sym, ap, ◌∙◌, subst}
 use native.Mathlib.Omega.{arith}
 use Rattle.integers.proofs.Words.{bit_zero}
 use Rattle.placing.specs.Words.{Seated, Blocked, rows_of, caught}
+use Rattle.placing.proofs.Moving.{aimed_free}
 use Rattle.placing.proofs.Seating.{seated_unplaced, seated_more, seated_blocked}
 use Rattle.placing.proofs.seats.Seats.place_all.Goals as goal
 use Rattle.placing.proofs.seats.Seats.place_all.Goals.{In-loop-u}
@@ -15,7 +16,7 @@ few t = omega (arith, t.loop-u-test.true, t.args.self.now.nodes.now.few)
 pub chain-requires : goal.chain-requires
 chain-requires c =
     let g = few (goal.at.chain-requires c).In-loop-u in
-    record { node = g; unplaced = seated_unplaced c.loop-u.self.linked c.loop-u.invariant.1 g; labels = λ l e. (e, bit_zero l) }
+    (record { node = g; unplaced = seated_unplaced c.loop-u.self.linked c.loop-u.invariant.1 g; labels = λ l e. (e, bit_zero l) }, aimed_free c.loop-u.self.linked c.loop-u.self.nodes.now.own 0)
 
 pub returns-in-Err-clause-answer : goal.returns-in-Err-clause-answer
 returns-in-Err-clause-answer c =
@@ -30,5 +31,5 @@ loop-u-preserved c =
     let v = c.loop-u.invariant in let s = c.in_default.ensures in (
       s.same ∙ v.0,
       subst (λ n. Seated n.own 0 (c.loop-u.u + 1) c.chain.new.self.taken) (sym s.same)
-          (seated_more c.loop-u.self.linked v.1 (few (goal.at.loop-u-preserved c).In-loop-u) c.if-vanishes.false s.placed),
+          (seated_more c.loop-u.self.linked v.1 (few (goal.at.loop-u-preserved c).In-loop-u) c.if-vanishes.false s.placed.2),
     )

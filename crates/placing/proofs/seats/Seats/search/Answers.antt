@@ -47,7 +47,7 @@ pub returns-then-met-ne0 : goal.returns-then-met-ne0
 returns-then-met-ne0 c =
     let t = (goal.at.returns-then-met-ne0 c).After-lowest-l in
     let h = (head t).loop-layer in
-    rw c.from-from.ensures (subst (Met (head t).args.self.now.reach (head t).args.self.now.free (head t).args.start (head t).args.before (set h.steps.by h.count (l t)) (set h.steps.words h.count (newly (head t).args.self.now.reach h.seen (l t))) (h.count + 1))
+    rw c.from-from.ensures (subst (Met (head t).args.self.now.reach (head t).args.goals (head t).args.start (head t).args.before (set h.steps.by h.count (l t)) (set h.steps.words h.count (newly (head t).args.self.now.reach h.seen (l t))) (h.count + 1))
     (sym (rw c.from-from.ensures at c.lowest-label.ensures)) (searching_met h.invariant.0 (l t) (left t) (fits t) (rw c.from-from.ensures at c.if-met-ne0.true)))
 
 pub returns-then-all-eq0 : goal.returns-then-all-eq0

@@ -4,7 +4,7 @@ use Rattle.placing.proofs.Searching.{Searching, Layers, queue}
 use Rattle.placing.proofs.seats.Seats.search.Given as goal
 
 abbrev pub invariant-loop-layer : goal.invariant-loop-layer
-invariant-loop-layer l = Searching l.self.reach l.self.free l.start l.before l.steps.by l.steps.words l.count l.seen (queue l.layer l.next) × Layers l.layer l.next
+invariant-loop-layer l = Searching l.self.reach l.goals l.start l.before l.steps.by l.steps.words l.count l.seen (queue l.layer l.next) × Layers l.layer l.next
 
 abbrev pub decreases-loop-layer : goal.decreases-loop-layer
 decreases-loop-layer l = 64 - l.count

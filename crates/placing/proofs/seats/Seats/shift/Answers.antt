@@ -60,4 +60,4 @@ give-requires-2 c =
     (a.node, moving_small a m v, v.unplaced, v.here, rw (c.loop-i.invariant.0) (root_has a m v z))
 
 pub returns-clause-placed : goal.returns-clause-placed
-returns-clause-placed c start before a m = moving_done a m (c.loop-i.invariant.1 start before a m) (omega (arith, c.loop-i-test.false)) c.give-2.ensures.taken
+returns-clause-placed c start before a m = moving_done a m (c.loop-i.invariant.1 start before a m) (omega (arith, c.loop-i-test.false)) c.args.self.now.linked c.give-2.ensures.taken
