@@ -207,9 +207,11 @@ module _ {sets : List ℕ} {own : List Bool} {taken : List ℕ} {free start befo
       small = m.trail.small;
       begins = m.trail.begins;
       from = λ t h. let (s, e) = m.trail.from t h in
-          let g = seen_small m.trail t (entry by t) (omega (arith, m.trail.few)) s in
-          (s, v.joined.1 (entry by t) g ∙ or_none_lem (held_taken k (entry by t) g (aim.held (entry by t) g e (seen_outside m.trail t (entry by t) (omega arith) s)))
-          (ne_eqb (entry by t) l (λ q. differ meets (ap (bit goals) (sym q) ∙ e))));
+          let g = seen_small m.trail t (entry by t) (omega (arith, m.trail.few)) s in (
+            s,
+            v.joined.1 (entry by t) g ∙ or_none_lem (held_taken k (entry by t) g (aim.held (entry by t) g e (seen_outside m.trail t (entry by t) (omega arith) s)))
+                (ne_eqb (entry by t) l (λ q. differ meets (ap (bit goals) (sym q) ∙ e))),
+          );
       once = m.trail.once;
       leads = m.trail.leads;
     };

@@ -150,9 +150,9 @@ scanning_more {o} {p} {p'} {p''} {u} {b} {f} {k} a v r = record {
     here = ⊎_elim
         (λ (s, q). ⊎_elim (λ t. inl (joined t s)) (λ (m, n). inr (m, carried n s)) (v.each (f k)))
         (λ n. ⊎_elim
-            (λ t. inr (a, record { less = omega (linear, n.less, t.far); far = n.far; by = n.by ∙ v.kept.step; waits = n.waits }))
-            (λ (m, t). absurd (omega (linear, n.less, t.far)))
-            (v.each (f k)))
+        (λ t. inr (a, record { less = omega (linear, n.less, t.far); far = n.far; by = n.by ∙ v.kept.step; waits = n.waits }))
+        (λ (m, t). absurd (omega (linear, n.less, t.far)))
+        (v.each (f k)))
         r.here
 
 -- all of them

@@ -2,15 +2,16 @@
 -- Assumes nothing.
 use mathlib.Core.Path.{◌≡◌, refl, sym, ap, ◌∙◌}
 use mathlib.Core.Bool.{true, false}
-use mathlib.Core.List.{List}
-use Prim.Native.Nat.{ℕ, ◌+◌, ◌≤◌, ◌<◌}
+use mathlib.Core.List.{List, ◌++◌}
+use Prim.Native.Nat.{ℕ, ◌+◌, ◌-◌, ◌≤◌, ◌<◌}
 use native.Mathlib.Omega.{arith}
 use borrow.Author.Tests.{ltb-true, ltb-false}
 use lib.Dec.{ltb}
-use lib.ListN.{length, set, length-set}
-use lib.Seq.{get_or-set_same, get_or-set_other, ext_get_or}
+use lib.ListN.{length, set, length-set, drop, replicate, get_or, get_or-append, get_or-eq_default, length-append, length-replicate, length-drop, get_or-replicate}
+use lib.Seq.{get_or-set_same, get_or-set_other, get_or-drop, get_or-append_right, ext_get_or}
 use Rattle.integers.specs.Words.{bit}
-use Rattle.integers.proofs.Places.{by-test}
+use Rattle.integers.specs.Places.{tabulate}
+use Rattle.integers.proofs.Places.{by-test, length-tabulate, get_d_tabulate}
 use Rattle.assignment.proofs.Counts.{by-same}
 use Rattle.placing.specs.Words.{entry, Linked}
 use Rattle.placing.specs.Assigning.{Seatable}
@@ -53,3 +54,23 @@ module _ {n : ℕ} {sets taken : List ℕ} (t : Seatable n sets taken) where
   seated_all {taken'} {i} z s h = ext_get_or 0 taken' taken (s.size ∙ sym z) (λ u g. by-test (ltb u i)
       (λ y. s.done u (ltb-true u i y))
       (λ y. let k = ltb-false u i y in let b : u < 64 = omega (arith, s.size) in s.rest u k b ∙ sym (t.later u (omega arith) b)))
+
+-- ---- positions with nothing after them
+
+abbrev zeros : List ℕ
+zeros = replicate 64 0
+
+pub padded_out : {n : ℕ} (x : List ℕ) → n ≤ 64 → length x ≡ n → x ++ drop n zeros ≡ tabulate 64 (λ k. get_or x k 0)
+padded_out {n} x few z = ext_get_or 0 (x ++ drop n zeros) (tabulate 64 (λ k. get_or x k 0)) (size ∙ sym (length-tabulate 64 (λ k. get_or x k 0))) (λ k h.
+    let g : k < 64 = omega (arith, size) in
+    by-test (ltb k n)
+    (λ t. let l = ltb-true k n t in get_or-append x (drop n zeros) 0 k (omega arith) ∙ sym (get_d_tabulate 64 (λ k. get_or x k 0) k 0 g))
+    (λ t. let l = ltb-false k n t in
+    get_or-append_right x (drop n zeros) k 0 (omega arith) ∙ get_or-drop n zeros (k - length x) 0 ∙ get_or-replicate {A = ℕ} 64 (n + (k - length x)) 0 0 (omega arith)
+    ∙ sym (get_or-eq_default x 0 {n = k} (omega arith)) ∙ sym (get_d_tabulate 64 (λ k. get_or x k 0) k 0 g)))
+  where
+    rest : length (drop n zeros) ≡ 64 - n
+    rest = length-drop n zeros ∙ ap (λ (m : ℕ). m - n) (length-replicate {A = ℕ} 64 0)
+
+    size : length (x ++ drop n zeros) ≡ 64
+    size = length-append x (drop n zeros) ∙ (omega (arith, rest))

@@ -170,24 +170,24 @@ module _ {n : ℕ} {sets : List ℕ} {own : List Bool} {idle : ℕ} {taken holde
     pub lowest_tried : Lowest n sets own idle taken u taken'
     lowest_tried = ⊎_elim
         (λ e. let z = vanished e in let s = v.seated.seat u below z in subst (Lowest n sets own idle taken u) (sym e) (record {
-        seated = record { seat = λ w h b. by-same w u (λ q. rw q (out.none, s.1)) (λ q. out.seat w h q b); later = out.later; vacant = λ w a b. absurd (omega arith) };
-        filled = whole z;
-        settled = settled_more (Full n sets own idle) v.settled (λ w g. sym (agree1 w g)) (subst (λ (r : List ℕ). None (Full n sets own idle) (entry taken) u (entry r u)) e none);
-        same = agree1;
+          seated = record { seat = λ w h b. by-same w u (λ q. rw q (out.none, s.1)) (λ q. out.seat w h q b); later = out.later; vacant = λ w a b. absurd (omega arith) };
+          filled = whole z;
+          settled = settled_more (Full n sets own idle) v.settled (λ w g. sym (agree1 w g)) (subst (λ (r : List ℕ). None (Full n sets own idle) (entry taken) u (entry r u)) e none);
+          same = agree1;
         }))
         (λ (met, g, r).
         let small = bit_small (entry sets u) (entry taken' u) (k.fit_sets u) r.rooted in
         let same : (w : ℕ) → w < u → entry taken' w ≡ entry taken w = (λ w h. ⊎_elim (λ e. e ∙ agree1 w h)
         (λ (a, b, _). let q = agree1 w h in absurd (differ (t.barren.more (entry taken1 w) (more (entry taken1 w) (ap (bit closed) q ∙ v.under.shut w h (omega arith)))) b)) (r.stays w (λ z. omega arith))) in
         record {
-        seated = record {
-        seat = λ w h b. by-same w u (λ q. absurd (omega (arith, ap (entry taken') q))) (λ q. ⊎_elim (λ e. rw e (out.seat w h q (rw e at b))) (λ (x, y, z). ⊎_elim (λ f. absurd (omega arith)) (λ f. f) z) (r.stays w q));
-        later = λ w h b. let f = out.later w h b in ⊎_elim (λ e. e ∙ f) (λ (x, y, z). absurd (omega arith)) (r.stays w (λ q. omega arith));
-        vacant = λ w a b. absurd (omega arith);
-        };
-        filled = λ l h e. r.kept l h (meets l h e met g);
-        settled = settled_more (Full n sets own idle) v.settled (λ w h. sym (same w h)) none;
-        same = same;
+          seated = record {
+            seat = λ w h b. by-same w u (λ q. absurd (omega (arith, ap (entry taken') q))) (λ q. ⊎_elim (λ e. rw e (out.seat w h q (rw e at b))) (λ (x, y, z). ⊎_elim (λ f. absurd (omega arith)) (λ f. f) z) (r.stays w q));
+            later = λ w h b. let f = out.later w h b in ⊎_elim (λ e. e ∙ f) (λ (x, y, z). absurd (omega arith)) (r.stays w (λ q. omega arith));
+            vacant = λ w a b. absurd (omega arith);
+          };
+          filled = λ l h e. r.kept l h (meets l h e met g);
+          settled = settled_more (Full n sets own idle) v.settled (λ w h. sym (same w h)) none;
+          same = same;
         })
         t.outcome
 

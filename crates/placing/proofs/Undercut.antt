@@ -4,6 +4,7 @@ use mathlib.Core.Path.{◌≡◌, refl, sym, ap, ◌∙◌}
 use mathlib.Core.Bool.{Bool, true, false}
 use mathlib.Core.List.{List, [], ◌∷◌}
 use mathlib.Core.Logic.{◌⊎◌, inl, inr, ⊎_elim}
+use mathlib.Core.Option.{none, some}
 use Prim.Native.Nat.{ℕ, ◌+◌, ◌≤◌, ◌<◌}
 use native.Mathlib.Omega.{arith}
 use borrow.Author.Tests.{eqb-true, eqb-false, ltb-true, ltb-false}
@@ -14,24 +15,26 @@ use lib.Signed.{◌≤ℤ◌}
 use Rattle.integers.specs.Words.{bit}
 use Rattle.integers.specs.Places.{tabulate, total}
 use Rattle.integers.proofs.Parts.{linear}
-use Rattle.integers.proofs.Order.{le_trans}
+use Rattle.integers.proofs.Order.{le_refl, le_trans}
 use Rattle.integers.proofs.Places.{by-test}
 use Rattle.integers.proofs.Totals.{total_ext}
 use Rattle.instance.specs.Instance.{Instance, first}
 use Rattle.instance.specs.Readable.{Proper}
 use Rattle.rules.specs.Costs.{Costs, chosen, Matching}
-use Rattle.rules.specs.Assigned.{node_sum}
-use Rattle.rules.proofs.Assigned.{Assigns}
+use Rattle.rules.specs.Assigned.{node_sum, assignment}
+use Rattle.rules.proofs.Assigned.{Assigns, assignment_none, assignment_is}
 use Rattle.assignment.specs.Rows.{Rows, Node, Free}
 use Rattle.assignment.specs.First.{First}
 use Rattle.assignment.specs.Prices.{cost_of, Balanced}
 use Rattle.assignment.proofs.Counts.{differ, find}
 use Rattle.assignment.proofs.Duality.{cheapest, cheapest_balanced}
-use Rattle.placing.specs.Words.{entry, opens, slot_of, rows_of, All, Full, rank, Laid, Linked, Seated}
+use Rattle.placing.specs.Words.{entry, opens, slot_of, rows_of, All, Full, rank, Laid, Linked, Holds, Seated}
 use Rattle.placing.specs.Priced.{cost_at, price, net, Priced, Tight, Unpriced}
-use Rattle.placing.proofs.Slots.{opens_kinds, slot_label, slot_own}
+use Rattle.placing.specs.Assigning.{node_costs, Seatable}
+use Rattle.placing.proofs.Slots.{opens_kinds, opens-bit, opens-own, slot_label, slot_own}
+use Rattle.placing.proofs.Linking.{linked_distinct}
 use Rattle.placing.proofs.Holding.{linked_all}
-use Rattle.placing.proofs.Answers.{ranks, position_is, rank_within, placed_matching, matching_placed, matching_rank, comes_before}
+use Rattle.placing.proofs.Answers.{ranks, position_is, rank_within, placed_matching, matching_placed, matching_rank, comes_before, rank_few}
 
 -- ---- slots and their prices
 
@@ -122,6 +125,41 @@ module _ {n : ℕ} {sets : List ℕ} {own : List Bool} {c : ℕ → ℕ → ℤ}
     pub first_balanced : {q : ℕ → ℕ} → First (Full n sets' own' idle) n q → First Even n q
     first_balanced f = record { one = full_balanced f.one; first = λ y b. f.first y (balanced_full b) }
 
+-- ---- the same tables, for the search on tight cells
+
+module _ {n : ℕ} {sets : List ℕ} {own : List Bool} {c : ℕ → ℕ → ℤ} {taken : List ℕ} {free : ℕ} {prices : List ℤ} (few : n ≤ 64) (p : Priced n sets own c taken free prices)
+    {holders reach : List ℕ} (k : Linked sets taken holders reach free) {since : ℕ} (s : Seated own since n taken) where
+  pub takes_own : (u : ℕ) → u < n → opens sets own u (entry taken u) ≡ true
+  takes_own u h = (placed few p k s).allowed u h
+
+  module _ {sets' : List ℕ} {own' : List Bool} (t : Tight n sets own c taken prices sets' own') where
+    tight_own : (u : ℕ) → u < n → opens sets' own' u (entry taken u) ≡ true
+    tight_own u h = t.has u (entry taken u) h (takes_own u h) (le_refl (net c prices u (entry taken u)))
+
+    below_n : (u : ℕ) → u < 64 → entry taken u < 64 → u < n
+    below_n u h l = by-test (ltb u n) (ltb-true u n) (λ y. let e = s.later u (ltb-false u n y) h in absurd (omega arith))
+
+    pub tight_seatable : Seatable n sets' taken
+    tight_seatable = record {
+      few = few;
+      inside = λ u h l. sym (opens-bit sets' own' u (entry taken u) l) ∙ tight_own u (below_n u h l);
+      once = λ u w h h' l e. linked_distinct k u w h h' l e;
+      none = λ u h l. by-test (ltb u n) (λ y. (s.seat u (ltb-true u n y) l).0) (λ y. s.later u (ltb-false u n y) h);
+      later = s.later;
+    }
+
+    pub tight_seated : Seated own' 64 n taken
+    tight_seated = record {
+      seat = λ u h l. let e = (s.seat u h l).0 in (e, sym (opens-own sets' own' u) ∙ ap (opens sets' own' u) (sym e) ∙ tight_own u h);
+      later = s.later;
+      vacant = λ u h l. absurd (omega arith);
+    }
+
+  pub priced_filled : {idle : ℕ} → Unpriced prices idle → (l : ℕ) → l < 64 → bit idle l ≡ false → Holds taken l
+  priced_filled z l h e = by-test (bit free l)
+      (λ f. absurd (differ (z.has l h (p.idle l h f)) e))
+      (λ f. let (a, b, _) = k.held l h f in (entry holders l, a, b))
+
 -- ---- from labels to positions
 
 module _ {I : Instance} (proper : Proper I) (few : I.node_count ≤ 64) {sets : List ℕ} {own : List Bool} (laid : Laid I I.node_count sets own) (c : Costs) (w : ℕ → ℤ)
@@ -155,3 +193,20 @@ module _ {I : Instance} (proper : Proper I) (few : I.node_count ≤ 64) {sets : 
       first = λ y n h. comes_before proper laid m n (f.first (λ u. I.label (chosen I y u))
           (cheapest_balanced J inside pays w f.one (matching_placed proper laid n) (rw (sum_here, sum_there n) at h)));
     }
+
+-- ---- what the code answers
+
+-- no node's costs count where not all nodes can be placed
+pub none_assigned : {I : Instance} → Proper I → {sets : List ℕ} {own : List Bool} → Laid I I.node_count sets own → (c : Costs) → ((q : ℕ → ℕ) → All I.node_count sets own q → ⊥) → assignment I c ≡ none
+none_assigned {I} proper laid c f = assignment_none I c (λ x m. f (λ u. I.label (chosen I x u)) (matching_placed proper laid m))
+
+module _ {I : Instance} (proper : Proper I) (few : I.node_count ≤ 64) {sets : List ℕ} {own : List Bool} (laid : Laid I I.node_count sets own) (costs : List ℤ)
+    {taken : List ℕ} {free : ℕ} {prices : List ℤ} (p : Priced I.node_count sets own (cost_at I sets costs) taken free prices)
+    {holders reach : List ℕ} (k : Linked sets taken holders reach free) {since : ℕ} (s : Seated own since I.node_count taken)
+    {sets' : List ℕ} {own' : List Bool} (t : Tight I.node_count sets own (cost_at I sets costs) taken prices sets' own') {idle : ℕ} (z : Unpriced prices idle) where
+  pub found_assigned : {q : ℕ → ℕ} → First (Full I.node_count sets' own' idle) I.node_count q → assignment I (node_costs costs) ≡ some (ranks I.node_count sets q)
+  unfolding cost_at
+  found_assigned f = assignment_is I (node_costs costs) (first_assigns proper few laid (node_costs costs) (price prices) (none_past I.node_count sets own (cost_at I sets costs) prices p.size) (first_balanced few p k s t z f))
+
+  pub found_few : {q : ℕ → ℕ} → First (Full I.node_count sets' own' idle) I.node_count q → (u : ℕ) → u < I.node_count → rank (entry sets u) (q u) < 16
+  found_few {q} f u h = rank_few proper laid u (q u) h (t.is u (q u) h (f.one.0.allowed u h)).0

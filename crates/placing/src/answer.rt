@@ -35,7 +35,7 @@ pub(crate) fn rank_of(word: u64, label: u8) -> u8
 }
 
 // The position of each node: how many of its labels are below the one that it takes.
-fn write_positions(nodes: &Nodes, taken: &[u8; 64], out: &mut [u8])
+pub(crate) fn write_positions(nodes: &Nodes, taken: &[u8; 64], out: &mut [u8])
     requires { (length out.old ≤ 64) × ((u : ℕ) → u < length out.old → rank (entry nodes.now.sets u) (entry taken.now u) < 16) }
     ensures { out.new ≡ tabulate (length out.old) (λ u. rank (entry nodes.now.sets u) (entry taken.now u)) }
 {

@@ -30,7 +30,13 @@ impl<'a> Seats<'a> {
     }
 
     // Some node above `u` that has 255 or a label of `idle` is to leave it, so that in the end one takes the label that is owed; else no node moves, and the answer is the labels seen.
-    pub(crate) fn fill(&mut self, u: usize, owed: u8, terms: &Terms, steps: &mut Steps) -> Result<(), u64>
+    pub(crate) fn fill(
+        &mut self,
+        u: usize,
+        owed: u8,
+        terms: &Terms,
+        steps: &mut Steps,
+    ) -> Result<(), u64>
         requires { (u < self.old.nodes.now.count) × (owed < 64) × (bit terms.now.idle owed ≡ false)
             × Out self.old.nodes.now.count self.old.nodes.now.own terms.now.idle owed u self.old.taken × Below terms.now.closed u self.old.taken }
         ensures same { self.new.nodes.now ≡ self.old.nodes.now }

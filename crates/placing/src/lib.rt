@@ -1,10 +1,10 @@
-// Placing all nodes, or naming nodes that cannot all be placed. Document 02, wish 4.
+// Placing all nodes, or naming nodes that cannot all be placed; and placing them at least cost. Document 02, wishes 4 and 6.
 #![tactic(auto)]
 
 mod all;
 mod answer;
-mod assigning;
 mod assign;
+mod assigning;
 mod filling;
 mod greedy;
 mod lowering;
@@ -19,3 +19,4 @@ mod tight;
 mod words;
 
 pub use answer::place;
+pub use assigning::{Costed, cheapest};
