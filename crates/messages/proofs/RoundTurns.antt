@@ -18,7 +18,8 @@ use Rattle.instance.proofs.LaidOut.{row_inside, label_small}
 use Rattle.rules.specs.Costs.{Costs, Buffers, costs_of, position, chosen}
 use Rattle.rules.specs.Rounding.{best_from, best, free, key, choice, round_below, round}
 use Rattle.rules.proofs.Loops.{round_next, round_stops, round_stuck}
-use Rattle.messages.specs.Rounded.{costs_by, rounded_by, keys_at, or_none, chosen_from, Placed}
+use Rattle.placing.specs.Assigning.{rounded_by}
+use Rattle.messages.specs.Rounded.{costs_by, keys_at, or_none, chosen_from, Placed}
 use Rattle.instance.specs.declared.sheet.Sheet.{Sheet}
 use Rattle.instance.proofs.Sheets as sheet
 use Rattle.messages.proofs.ChoiceLaws.{best_inside}

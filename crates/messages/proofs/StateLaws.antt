@@ -3,6 +3,7 @@
 use Rattle.std.proofs.Common.{◌≡◌, ℕ, List, sym, ap, ◌∙◌, arith}
 use Rattle.rules.specs.Costs.{Buffers}
 use Rattle.rules.specs.Calls.{cost_limit, lent_refusal}
+use Rattle.rules.specs.Assigned.{Way}
 use Rattle.rules.specs.Run as runs
 use Rattle.messages.specs.declared.checked.Checked.{Checked}
 use Rattle.messages.specs.declared.records.Flow.{Flow}
@@ -63,9 +64,9 @@ module _ (s : State) where
   label_left flow r e = ap (label_settled (buffers_in s)) e ∙ sym (label_turn good flow r.node r.index r.share)
 
   -- and a rounding
-  pub rounding_left : (r : Record) {m : RoundMove} → m ≡ round_taken (instance_in s) s.nodes.now s.edges.now s.incumbent.now r.node r.index r.share
-      → settle (lent s.nodes.now s.labels.now s.edges.now m.incumbent) m.stuck m.refusal ≡ leaves s runs.rounding r
-  rounding_left r e = round_settled_lem (instance_in s) (limit_in s) (buffers_in s) r.node r.index r.share e
+  pub rounding_left : (w : Way) (r : Record) {m : RoundMove} → m ≡ round_taken (instance_in s) s.nodes.now s.edges.now s.incumbent.now w r.node r.index r.share
+      → settle (lent s.nodes.now s.labels.now s.edges.now m.incumbent) m.stuck m.refusal ≡ leaves s (runs.rounding w) r
+  rounding_left w r e = round_settled_lem (instance_in s) (limit_in s) (buffers_in s) w r.node r.index r.share e
 
 -- a record after others
 pub same_after : {s t u : State} → Same s t → Same t u → Same s u

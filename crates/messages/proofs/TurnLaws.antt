@@ -15,7 +15,7 @@ use Rattle.instance.specs.Readable.{Proper}
 use Rattle.rules.specs.Costs.{Buffers, costs_of, in_range, Sized}
 use Rattle.rules.specs.Messages.{node_to_edge, edge_to_node, node_to_label, label_to_node, to_label, deltas, shift}
 use mathlib.Core.Option.{Option, none, some}
-use Rattle.rules.specs.Rounding.{round}
+use Rattle.rules.specs.Assigned.{candidate}
 use Rattle.rules.specs.Run.{Kind, message, rounding, unknown, kind_of, Outcome, refused, done, rounded, checked, effect, legal_message, legal_edge, legal_position}
 use Rattle.rules.specs.Calls.{cost_limit, incumbent_ok, lent_refusal}
 use Rattle.rules.proofs.Bridge.{moved_label, touched_label}
@@ -163,7 +163,7 @@ module _ {s : List ℕ} {limit : ℕ} {b : Buffers} (g : Good s limit b) where
     where
       Once : Outcome → Type 0
       Once o = (settled b o).stuck ≤ 1
-  stuck_once rounding u k r = by_cond Once (eqb u 0 && eqb k 0 && eqb r 0) (λ _. go (round I (costs_of b))) (λ _. omega arith)
+  stuck_once (rounding w) u k r = by_cond Once (eqb u 0 && eqb k 0 && eqb r 0) (λ _. go (candidate I (costs_of b) w)) (λ _. omega arith)
     where
       Once : Outcome → Type 0
       Once o = (settled b o).stuck ≤ 1

@@ -8,6 +8,9 @@ use Rattle.rules.specs.Run as runs
 use Rattle.rules.specs.Run.{kind_of, legal_position, legal_edge}
 use Rattle.messages.specs.declared.records.Flow.{Flow}
 use Rattle.messages.specs.declared.records.Flow.TheVariants.{FromNode, ToNode}
+use Rattle.rules.specs.Assigned as ways
+use Rattle.messages.specs.declared.records.Way.{Way}
+use Rattle.messages.specs.declared.records.Way.TheVariants.{InTurn, AtOnce}
 use Rattle.messages.specs.declared.records.Kind.{Kind}
 use Rattle.messages.specs.declared.records.Kind.TheVariants.{Edge, Label, Rounding}
 use Rattle.messages.specs.declared.records.Record.{Record}
@@ -28,6 +31,15 @@ abbrev pub label_message : Flow → rules.Message
 label_message FromNode = rules.node_to_label
 label_message ToNode = rules.label_to_node
 
+-- the rules' ways to a rounding, and as the code has them
+abbrev pub way_of : Way → ways.Way
+way_of InTurn = ways.in_turn
+way_of AtOnce = ways.at_once
+
+abbrev pub way_as : ways.Way → Way
+way_as ways.in_turn = InTurn
+way_as ways.at_once = AtOnce
+
 -- the rules' kind as the code has it: refused for one that does not exist
 abbrev pub message_as : rules.Message → Kind
 message_as rules.node_to_edge = Edge FromNode
@@ -37,7 +49,7 @@ message_as rules.label_to_node = Label ToNode
 
 abbrev pub kind_as : runs.Kind → Result Kind Refusal
 kind_as (runs.message m) = Ok (message_as m)
-kind_as runs.rounding = Ok Rounding
+kind_as (runs.rounding w) = Ok (Rounding (way_as w))
 kind_as runs.unknown = Err NoSuchRecord
 
 -- five bytes as a kind and what a record of it names, if there is such a kind

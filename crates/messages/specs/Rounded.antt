@@ -1,4 +1,4 @@
--- What rounding's code answers and asks: keys as an array, the choice as a number, and the positions in an array of 64.
+-- What rounding's code answers and asks: keys as an array, and the choice as a number.
 use Rattle.std.specs.Prelude.{ℕ, ◌+◌, ◌*◌, ◌<◌, Bool, false, cond, Option, None, Some, List, [], ◌∷◌, get_or, ℤ, pos, ◌+ℤ◌, int_lt, nat_lt, slice_index, slice_index_or}
 use Rattle.std.proofs.Math.Option.{Option as Choice, none, some}
 use Rattle.integers.specs.Rows.{part}
@@ -16,11 +16,6 @@ costs_by nodes edges = record {
   label = λ i. pos 0;
   edge = λ j. slice_index_or edges j (pos 0);
 }
-
--- the answer: a position for each node and 0 in the unused places, or none where rounding is stuck
-unfoldable pub rounded_by : Choice (List ℕ) → Option (List ℕ)
-rounded_by none = None
-rounded_by (some x) = Some (tabulate 64 (λ k. slice_index x k))
 
 -- ---- the keys
 

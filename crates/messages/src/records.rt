@@ -42,12 +42,19 @@ impl Flow {
     }
 }
 
+// How a rounding finds a matching: node by node, or for all nodes at once.
+#[derive(Clone, Copy, Debug, PartialEq, Eq)]
+pub(crate) enum Way {
+    InTurn,
+    AtOnce,
+}
+
 // What a record does: a message between a node and an edge or a node and a label, or a rounding.
 #[derive(Clone, Copy, Debug, PartialEq, Eq)]
 pub(crate) enum Kind {
     Edge(Flow),
     Label(Flow),
-    Rounding,
+    Rounding(Way),
 }
 
 // The kind by its number.
@@ -63,7 +70,8 @@ impl TryFrom<u8> for Kind {
             2 => Ok(Kind::Edge(Flow::ToNode)),
             3 => Ok(Kind::Label(Flow::FromNode)),
             4 => Ok(Kind::Label(Flow::ToNode)),
-            5 => Ok(Kind::Rounding),
+            5 => Ok(Kind::Rounding(Way::InTurn)),
+            6 => Ok(Kind::Rounding(Way::AtOnce)),
             _ => Err(Refusal::NoSuchRecord),
         }
     }

@@ -6,7 +6,8 @@ ghost use Rattle.instance.specs.Instance.{first};
 ghost use Rattle.instance.specs.Sheet.{instance_of};
 ghost use Rattle.rules.specs.Calls.{cost_limit};
 ghost use Rattle.rules.specs.Rounding.{round};
-ghost use Rattle.messages.specs.Rounded.{costs_by, rounded_by, added, keys_at, edge_row, better, chosen_from, Placed};
+ghost use Rattle.placing.specs.Assigning.{rounded_by};
+ghost use Rattle.messages.specs.Rounded.{costs_by, added, keys_at, edge_row, better, chosen_from, Placed};
 ghost use Rattle.messages.specs.State.{Same, instance_in, buffers_in};
 
 use crate::end::End;

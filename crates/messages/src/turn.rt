@@ -19,10 +19,7 @@ impl State<'_> {
         match kind {
             Kind::Edge(flow) => self.edge_record(flow, step)?,
             Kind::Label(flow) => self.label_record(flow, step)?,
-            Kind::Rounding => {
-                self.make_lowers();
-                return self.round_record(step);
-            }
+            Kind::Rounding(way) => return self.round_record(way, step),
         }
         Ok(0)
     }

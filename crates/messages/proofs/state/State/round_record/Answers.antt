@@ -5,10 +5,12 @@ use Rattle.instance.specs.Sheet.{instance_of}
 use Rattle.instance.specs.declared.sheet.Sheet.{Sheet}
 use Rattle.instance.proofs.Sheets as sheet
 use Rattle.rules.specs.Costs.{Costs}
-use Rattle.rules.specs.Rounding.{round}
+use Rattle.rules.specs.Assigned.{Way, candidate}
 use Rattle.rules.specs.Run.{rounding}
 use Rattle.messages.specs.RoundRecord.{round_move, round_left, round_taken}
-use Rattle.messages.specs.Rounded.{costs_by, rounded_by}
+use Rattle.messages.specs.Rounded.{costs_by}
+use Rattle.messages.specs.Records.{way_of}
+use Rattle.placing.specs.Assigning.{rounded_by}
 use Rattle.messages.specs.State.{instance_in}
 use Rattle.messages.proofs.RoundRecordLaws.{taken_rounds, taken_refused, places_long, stuck_left, found_labelling, found_left}
 use Rattle.messages.proofs.StateLaws.{kept_fits, rounding_left, good_after}
@@ -21,10 +23,10 @@ module _ (p : Else-not-names_nothing) where
   begin = (goal.at.Else-not-names_nothing p).Start
 
   rounds : (let s = begin.args.self.now in let r = begin.args.step in
-      round_left (instance_in s) (round (instance_in s) (costs_by s.nodes.now s.edges.now)) s.incumbent.now ≡ round_taken (instance_in s) s.nodes.now s.edges.now s.incumbent.now r.node r.index r.share)
+      round_left (instance_in s) (candidate (instance_in s) (costs_by s.nodes.now s.edges.now) (way_of begin.args.way)) s.incumbent.now ≡ round_taken (instance_in s) s.nodes.now s.edges.now s.incumbent.now (way_of begin.args.way) r.node r.index r.share)
   rounds =
       let s = begin.args.self.now in let r = begin.args.step in
-      taken_rounds (instance_in s) s.nodes.now s.edges.now s.incumbent.now r.node r.index r.share (sym p.names_nothing.ensures ∙ p.if-not-names_nothing.false)
+      taken_rounds (instance_in s) s.nodes.now s.edges.now s.incumbent.now (way_of begin.args.way) r.node r.index r.share (sym p.names_nothing.ensures ∙ p.if-not-names_nothing.false)
 
 -- where a rounding was made
 module _ (p : In-Some) where
@@ -40,8 +42,11 @@ module _ (p : In-Some) where
   abbrev costs : Costs
   costs = costs_by start.args.self.now.nodes.now start.args.self.now.edges.now
 
-  made : Some p.in-Some.x ≡ rounded_by (round I costs)
-  made = p.in-Some.ensures
+  abbrev way : Way
+  way = way_of start.args.way
+
+  made : Some p.in-Some.x ≡ rounded_by (candidate I costs way)
+  made = p.in-Some.ensures.found
 
   same : x.nodes ≡ I.node_count
   same = sheet.nodes_is x
@@ -50,7 +55,7 @@ module _ (p : In-Some) where
   few = sheet.nodes_few x
 
   room : x.nodes ≤ length p.in-Some.x
-  room = omega (arith, few, places_long I costs x.nodes same few p.in-Some.x made)
+  room = omega (arith, few, places_long I costs way x.nodes same few p.in-Some.x made)
 
 pub slice_bounds-x-end : goal.slice_bounds-x-end
 slice_bounds-x-end c = room (goal.at.slice_bounds-x-end c).In-Some
@@ -61,14 +66,14 @@ slice_bounds-found-end c =
 
 pub invariant_of-found : goal.invariant_of-found
 invariant_of-found c =
-    let p = (goal.at.invariant_of-found c).In-Some in record { labelling = found_labelling (I p) (costs p) (x p).nodes (same p) (few p) c.in-Some.x (made p) }
+    let p = (goal.at.invariant_of-found c).In-Some in record { labelling = found_labelling (I p) (costs p) (way p) (x p).nodes (same p) (few p) c.in-Some.x (made p) }
 
 -- what was found is adopted
 adopted : (a : After-adopt) → (let s = a.args.self.now in let r = a.args.step in
-    round_move a.adopt.new.incumbent 0 0 ≡ round_taken (instance_in s) s.nodes.now s.edges.now s.incumbent.now r.node r.index r.share)
+    round_move a.adopt.new.incumbent 0 0 ≡ round_taken (instance_in s) s.nodes.now s.edges.now s.incumbent.now (way_of a.args.way) r.node r.index r.share)
 adopted a =
     let p = (goal.at.After-adopt a).In-Some in
-    found_left (I p) (costs p) (x p).nodes (same p) (few p) a.in-Some.x (made p) a.args.self.now.incumbent.now _ a.adopt.ensures ∙ rounds (goal.at.After-adopt a).Else-not-names_nothing
+    found_left (I p) (costs p) (way p) (x p).nodes (same p) (few p) a.in-Some.x (made p) a.args.self.now.incumbent.now _ a.adopt.ensures ∙ rounds (goal.at.After-adopt a).Else-not-names_nothing
 
 pub adopt-requires : goal.adopt-requires
 adopt-requires c = kept_fits c.args.self.now
