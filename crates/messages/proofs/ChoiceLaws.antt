@@ -9,7 +9,7 @@ use Rattle.integers.proofs.Places.{of-cond, range_mem, select_mem}
 use Rattle.integers.proofs.Ranges.{range_last, select_append}
 use Rattle.instance.specs.Instance.{Instance}
 use Rattle.rules.specs.Rounding.{best, best_from}
-use Rattle.rules.proofs.Rounding.{best_mem}
+use Rattle.rules.proofs.Ordered.{best_mem}
 use Rattle.messages.specs.Rounded.{or_none, better, chosen_from}
 
 -- ---- the better of two

@@ -19,7 +19,10 @@ impl State<'_> {
         match kind {
             Kind::Edge(flow) => self.edge_record(flow, step)?,
             Kind::Label(flow) => self.label_record(flow, step)?,
-            Kind::Rounding(way) => return self.round_record(way, step),
+            Kind::Rounding(way) => {
+                self.prepare(way);
+                return self.round_record(way, step);
+            }
         }
         Ok(0)
     }

@@ -46,7 +46,7 @@ module _ (p : In-Some) where
   way = way_of start.args.way
 
   made : Some p.in-Some.x ≡ rounded_by (candidate I costs way)
-  made = p.in-Some.ensures.found
+  made = p.in-Some.ensures
 
   same : x.nodes ≡ I.node_count
   same = sheet.nodes_is x
@@ -79,18 +79,18 @@ pub adopt-requires : goal.adopt-requires
 adopt-requires c = kept_fits c.args.self.now
 
 pub invariant_of-self : goal.invariant_of-self
-invariant_of-self c = record { held = c.args.self.now.held; lowered = c.args.self.now.lowered; knows = c.args.self.now.knows; good = good_after c.args.self.now rounding c.args.step (rounding_left c.args.self.now c.args.step (adopted (goal.at.invariant_of-self c).After-adopt)) }
+invariant_of-self c = record { held = c.args.self.now.held; lowered = c.args.self.now.lowered; knows = c.args.self.now.knows; good = good_after c.args.self.now (rounding (way_of c.args.way)) c.args.step (rounding_left c.args.self.now (way_of c.args.way) c.args.step (adopted (goal.at.invariant_of-self c).After-adopt)) }
 
 pub returns-then-not-names_nothing-clause-left : goal.returns-then-not-names_nothing-clause-left
 returns-then-not-names_nothing-clause-left c =
     let s = c.args.self.now in let r = c.args.step in
-    rounding_left s r (taken_refused (instance_in s) s.nodes.now s.edges.now s.incumbent.now r.node r.index r.share (sym c.names_nothing.ensures ∙ c.if-not-names_nothing.true))
+    rounding_left s (way_of c.args.way) r (taken_refused (instance_in s) s.nodes.now s.edges.now s.incumbent.now (way_of c.args.way) r.node r.index r.share (sym c.names_nothing.ensures ∙ c.if-not-names_nothing.true))
 
 pub returns-in_default-clause-left : goal.returns-in_default-clause-left
 returns-in_default-clause-left c =
     let s = c.args.self.now in
-    rounding_left s c.args.step
-    (stuck_left (instance_in s) (round (instance_in s) (costs_by s.nodes.now s.edges.now)) s.incumbent.now c.in_default.ensures ∙ rounds (goal.at.returns-in_default-clause-left c).Else-not-names_nothing)
+    rounding_left s (way_of c.args.way) c.args.step
+    (stuck_left (instance_in s) (candidate (instance_in s) (costs_by s.nodes.now s.edges.now) (way_of c.args.way)) s.incumbent.now c.in_default.ensures ∙ rounds (goal.at.returns-in_default-clause-left c).Else-not-names_nothing)
 
 pub returns-clause-left : goal.returns-clause-left
-returns-clause-left c = rounding_left c.args.self.now c.args.step (adopted (goal.at.returns-clause-left c).After-adopt)
+returns-clause-left c = rounding_left c.args.self.now (way_of c.args.way) c.args.step (adopted (goal.at.returns-clause-left c).After-adopt)
