@@ -11,10 +11,10 @@ use borrow.Author.Tests.{eq-eqb, eqb-true, ltb-true, ltb-false}
 use Rattle.integers.specs.Words.{bit}
 use Rattle.integers.proofs.Words.{bit_small, bit_own}
 use Rattle.integers.proofs.Places.{by-test, and_true, and_both, or_split, left_true, right_true}
-use Rattle.assignment.specs.Rows.{In, but, count}
+use Rattle.assignment.specs.Rows.{In, but}
 use Rattle.assignment.specs.First.{Agree}
 use Rattle.assignment.proofs.Counts.{differ, by-same, but_true, count-but, pigeonhole}
-use Rattle.placing.specs.Words.{entry, flag, opens, All, Full, Linked, Holds, seen_by, Ended, Below, Out, Barren, Spent}
+use Rattle.placing.specs.Words.{entry, flag, All, Full, Linked, Holds, seen_by, Ended, Below, Out, Barren, Spent}
 use Rattle.placing.proofs.Searching.{fails}
 use Rattle.placing.proofs.Linking.{linked_distinct, linked_word}
 use Rattle.placing.proofs.Slots.{opens-bit, opens_solid, same_slot}

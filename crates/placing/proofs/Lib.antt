@@ -8,6 +8,8 @@ pub mod Searching
 pub mod Linking
 pub mod Moving
 pub mod Holding
+pub mod Reseating
+pub mod Leaving
 pub mod Barring
 pub mod Blocking
 pub mod Seating

@@ -1,7 +1,7 @@
 -- The label met becomes free, and nodes move along the trail, from that label back to the root.
 -- Assumes nothing.
 use mathlib.Core.Path.{◌≡◌, refl, sym, ap, ◌∙◌, subst}
-use mathlib.Core.Bool.{Bool, true, false, ◌||◌, or-false}
+use mathlib.Core.Bool.{Bool, true, false, ◌||◌}
 use mathlib.Core.List.{List}
 use mathlib.Core.Logic.{◌⊎◌, inl, inr, ⊎_elim}
 use Prim.Native.Nat.{ℕ, zero, suc, ◌-◌, ◌^◌, ◌≤◌, ◌<◌}
@@ -14,10 +14,10 @@ use lib.Count.{count_trailing_zeros}
 use lib.ListN.{length, set}
 use lib.Seq.{get_or-set_same, get_or-set_other}
 use Rattle.integers.specs.Words.{bit}
-use Rattle.integers.proofs.Places.{by-test, or_split, left_true, right_true}
+use Rattle.integers.proofs.Places.{or_split, left_true, right_true}
 use Rattle.integers.proofs.Words.{bit_small, bit_dropped, bit_kept}
 use Rattle.assignment.proofs.Counts.{differ, by-same}
-use Rattle.placing.specs.Words.{entry, seen_by, Trail, Met, Joined, Linked, Holds, Asked, Aimed, Rooted, Vacated}
+use Rattle.placing.specs.Words.{entry, seen_by, Trail, Met, Joined, Linked, Asked, Aimed, Rooted, Vacated}
 use Rattle.placing.proofs.Linking.{free_held, held_taken}
 use Rattle.placing.proofs.Searching.{seen_later, seen_outside, both_bits, or_none_lem}
 

@@ -14,17 +14,17 @@ use lib.ListN.{set}
 use lib.Seq.{get_or-set_same, get_or-set_other}
 use Rattle.integers.specs.Words.{bit}
 use Rattle.integers.proofs.Places.{by-test, or_split, and_true, and_both, left_true, right_true}
-use Rattle.integers.proofs.Words.{bit_small, bit_zero, bit_own, bit_only, bit_without, lowest, without_fits}
+use Rattle.integers.proofs.Words.{bit_small, bit_zero, bit_own, bit_only, bit_or_lem, bit_without, lowest, without_fits}
 use Rattle.assignment.specs.First.{Agree, First, None}
 use Rattle.assignment.proofs.Counts.{differ, by-same}
 use Rattle.assignment.proofs.Firsts.{settled_none, settled_more, settled_first}
-use Rattle.placing.specs.Words.{entry, flag, All, Full, Linked, Seated, Holds, Aimed, Asked, Rooted, seen_by, Ended, Below, Filled, Lowered, Lowest, Out, Barren, Tried}
-use Rattle.placing.proofs.Searching.{fails, seen_later, seen_begin}
+use Rattle.placing.specs.Words.{entry, flag, Full, Linked, Seated, Holds, Aimed, Asked, Rooted, seen_by, Ended, Below, Filled, Lowered, Lowest, Out, Barren, Spent, Tried}
+use Rattle.placing.proofs.Searching.{fails, or_fails, seen_later, seen_begin}
 use Rattle.placing.proofs.Slots.{opens_kinds, opens-bit}
 use Rattle.placing.proofs.Linking.{free_held, linked_distinct}
 use Rattle.placing.proofs.Holding.{linked_all}
 use Rattle.placing.proofs.Taking.{Least, least_below}
-use Rattle.placing.proofs.Barring.{label_once, barren_none, barren_more}
+use Rattle.placing.proofs.Barring.{label_once, barren_none, barren_more, open_barred, owed_barred}
 
 -- ---- the labels of u from the lowest on: those of `seen` are barren, those of `rest` are left
 
@@ -190,6 +190,75 @@ module _ {n : ℕ} {sets : List ℕ} {own : List Bool} {idle : ℕ} {taken holde
           same = same;
         })
         t.outcome
+
+  -- ---- u has left its label
+
+  away : entry (set taken u 255) u ≡ 255
+  away = get_or-set_same taken u 255 0 (omega (arith, k.size_taken, v.few))
+
+  elsewhere : (w : ℕ) → (w ≡ u → ⊥) → entry (set taken u 255) w ≡ entry taken w
+  elsewhere w d = get_or-set_other taken u w 255 0 d
+
+  pub left_same : (w : ℕ) → w < u → entry (set taken u 255) w ≡ entry taken w
+  left_same w h = elsewhere w (λ q. omega arith)
+
+  pub left_out : Out n own idle (entry taken u) u (set taken u 255)
+  left_out = record {
+    none = away;
+    seat = λ w h d l. let q = elsewhere w d in rw q (v.seated.seat w h (rw q at l));
+    later = λ w h l. elsewhere w (λ q. omega arith) ∙ v.seated.later w h l;
+    filled = λ l h e d. let (w, g, f) = v.filled l h e in (w, g, elsewhere w (λ q. d (sym f ∙ ap (entry taken) q)) ∙ f);
+    gone = λ w h l e. by-same w u (λ q. omega (arith, ap (entry (set taken u 255)) q, away)) (λ q. q (linked_distinct k w u h (omega (arith, v.few)) (omega (arith, elsewhere w q)) (sym (elsewhere w q) ∙ e)));
+  }
+
+  module _ {taken1 holders1 reach1 : List ℕ} {free1 : ℕ} (k1 : Linked sets taken1 holders1 reach1 free1) (agree1 : (w : ℕ) → w < u → entry taken1 w ≡ entry taken w) where
+    pub under_same : Below closed u taken1
+    under_same = record {
+      fit = v.under.fit;
+      shut = λ w h l. let q = agree1 w h in ap (bit closed) q ∙ v.under.shut w h (omega arith);
+      only = λ l e. let (w, h, f) = v.under.only l e in (w, h, agree1 w h ∙ f);
+    }
+
+    -- all labels that are not of `idle` are taken by others
+    pub lowest_open : (word : ℕ) {taken' : List ℕ} → Out n own idle 255 u taken1 → ((w : ℕ) → u < w → w < n → flag own w ≡ true → entry taken1 w < 64 → bit word (entry taken1 w) ≡ true)
+        → Tried sets own taken1 (bit_or free1 word) closed u taken' → Lowest n sets own idle taken u taken'
+    lowest_open word out all t =
+        let filled : Filled idle taken1 = (λ l h e. out.filled l h e (λ q. omega arith)) in
+        lowest_tried out agree1 (λ l e. e) t
+        (λ q p a took. open_barred k1 v.few below out under_same t.barren
+        (λ l h e _. free_held k1 l h (or_fails (bit free1 l) (bit word l) (sym (bit_or_lem free1 word l) ∙ e)).0)
+        (λ w g h f l. bit_or_lem free1 word (entry taken1 w) ∙ right_true (bit free1 (entry taken1 w)) (all w g h f l)) p.0 a took)
+        (λ l h e met g. inl (filled l h e))
+        (λ _. filled)
+
+    -- the label that u had is owed, and no other node can come to it
+    pub lowest_owed : {before : ℕ} {taken' : List ℕ} → entry taken u < 64 → bit idle (entry taken u) ≡ false → Out n own idle (entry taken u) u taken1 → Spent sets taken1 idle (entry taken u) u n closed before
+        → Tried sets own taken1 (2 ^ entry taken u) before u taken' → Lowest n sets own idle taken u taken'
+    lowest_owed small asked out spent t =
+        lowest_tried out agree1 spent.more t
+        (λ q p a took. owed_barred k1 v.few below out under_same small asked spent t.barren p a took)
+        (λ l h e met g. by-same l (entry taken u) (λ q. inr (q ∙ sym (bit_only (entry taken u) met g))) (λ q. inl (out.filled l h e q)))
+        (λ z. absurd (omega arith))
+
+-- what is owed may stay free
+pub out_idle : {n : ℕ} {own : List Bool} {idle owed u : ℕ} {taken : List ℕ} → Out n own idle owed u taken → (owed < 64 → bit idle owed ≡ true) → Out n own idle 255 u taken
+out_idle {idle = idle} o f = record {
+  none = o.none;
+  seat = o.seat;
+  later = o.later;
+  filled = λ l h e _. o.filled l h e (λ q. differ (f (omega arith)) (ap (bit idle) (sym q) ∙ e));
+  gone = λ v h l e. omega arith;
+}
+
+-- all labels that are free or can be left are goals
+pub aimed_open : {own : List Bool} {sets taken holders reach : List ℕ} {free u before : ℕ} (word : ℕ) → Linked sets taken holders reach free
+    → ((l : ℕ) → bit word l ≡ true → (w : ℕ) × (w < 64) × (u < w) × (entry taken w ≡ l) × (flag own w ≡ true)) → Aimed own taken (bit_or free word) before
+aimed_open {own} {taken = taken} {free = free} word k only = record {
+  held = λ l h e _. free_held k l h (or_fails (bit free l) (bit word l) (sym (bit_or_lem free word l) ∙ e)).0;
+  loose = λ v h s e. ⊎_elim (λ c. absurd (differ c (k.taker v h s).0))
+      (λ c. let (w, g, _, f, y) = only (entry taken v) c in ap (flag own) (linked_distinct k v w h g s (sym f)) ∙ y)
+      (or_split (bit free (entry taken v)) (bit word (entry taken v)) (sym (bit_or_lem free word (entry taken v)) ∙ e));
+}
 
 -- ---- one node after another
 

@@ -8,10 +8,18 @@ use crate::search::Steps;
 use crate::seats::Seats;
 use crate::words::{bit_of, has, with_label};
 
+// Whether a label may not stay free: it is no 255, and none of `idle`.
+pub(crate) fn must_stay(idle: u64, label: u8) -> bool
+    ensures stays { result ≡ true → (label < 64) × (bit idle label ≡ false) }
+    ensures leaves { result ≡ false → label < 64 → bit idle label ≡ true }
+{
+    label < 64 && !has(idle, label)
+}
+
 impl<'a> Seats<'a> {
     // Node `x` leaves its label for another, or from 255 for one, where a search from there meets one of `goals`; else it stays, and the answer is the labels seen.
     fn reseat(&mut self, x: usize, goals: u64, before: u64, steps: &mut Steps) -> Result<(), u64>
-        requires { (x < 64) × Aimed self.old.nodes.now.own self.old.taken goals before }
+        requires { (x < 64) × (64 ≤ entry self.old.taken x → entry self.old.taken x ≡ 255) × Aimed self.old.nodes.now.own self.old.taken goals before }
         ensures same { self.new.nodes.now ≡ self.old.nodes.now }
         ensures placed { IfOk result (λ _. (met : ℕ) × (bit goals met ≡ true) × Rooted self.old.nodes.now.own (set self.old.taken x 255) (entry self.old.nodes.now.sets x) before x met self.new.taken) }
         ensures barren { IfErr result (λ seen. (self.new.taken ≡ self.old.taken) × Passed self.old.nodes.now.sets self.old.taken goals before x seen) }
@@ -47,8 +55,8 @@ impl<'a> Seats<'a> {
         let goals = bit_of(owed);
         let mut seen = terms.closed | (self.free ^ goals);
         for x in u + 1..self.nodes.count {
-            let label = self.taken[x];
-            if label < 64 && !has(terms.idle, label) {
+            let stays = must_stay(terms.idle, self.taken[x]);
+            if stays {
                 continue;
             }
             match self.reseat(x, goals, seen, steps) {

@@ -4,10 +4,11 @@ ghost use Rattle.assignment.specs.First.{First};
 ghost use Rattle.integers.specs.Words.{bit};
 ghost use Rattle.placing.specs.Words.{entry, flag, Full, Seated, Holds, Aimed, Below, Lowered, Lowest, Owned, Out, Tried};
 
+use crate::filling::must_stay;
 use crate::search::Steps;
 use crate::seats::Seats;
 use crate::tables::Nodes;
-use crate::words::{bit_of, has, has_below, lowest, with_label};
+use crate::words::{bit_of, has_below, lowest, with_label};
 
 // What a node is lowered under: the labels of the nodes below it stay theirs; labels that may stay free; and the nodes that have 255 are below `end`.
 #[derive(Drop)]
@@ -80,7 +81,8 @@ impl<'a> Seats<'a> {
             return;
         }
         self.leave(u);
-        if label < 64 && !has(terms.idle, label) {
+        let owed = must_stay(terms.idle, label);
+        if owed {
             if let Err(seen) = self.fill(u, label, terms, steps) {
                 self.settle(u, bit_of(label), seen, steps);
                 return;

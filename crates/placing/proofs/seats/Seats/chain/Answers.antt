@@ -4,7 +4,7 @@ use Prim.Native.Nat.{ℕ, ◌<◌}
 use mathlib.Core.Bool.{true, false}
 use native.Mathlib.Omega.{arith}
 use Rattle.integers.specs.Words.{bit}
-use Rattle.placing.specs.Words.{Asked, Aimed, Met, Vacated, Rooted}
+use Rattle.placing.specs.Words.{Asked, Met, Rooted}
 use Rattle.placing.proofs.Searching.{seen_outside}
 use Rattle.placing.proofs.Moving.{vacated_asked, vacated_free, vacated_met, vacated_rooted, once_small, once_met, once_has, once_outside, once_rooted}
 use Rattle.placing.proofs.seats.Seats.chain.Goals as goal

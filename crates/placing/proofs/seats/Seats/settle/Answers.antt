@@ -1,7 +1,7 @@
 -- `settle` meets its contract: each turn is one of `Trying`.
-use mathlib.Core.Path.{◌≡◌, refl, sym, ap, ◌∙◌, subst, transport}
+use mathlib.Core.Path.{refl, sym, ap, ◌∙◌, subst, transport}
 use native.Mathlib.Omega.{arith}
-use Rattle.placing.specs.Words.{Asked, Aimed, Rooted, Ended, Tried}
+use Rattle.placing.specs.Words.{Asked, Aimed, Rooted, Ended}
 use Rattle.placing.proofs.Linking.{linked_as}
 use Rattle.placing.proofs.Taking.{Least, least_of}
 use Rattle.placing.proofs.Settling.{trying_none, trying_asked, trying_aimed, trying_more, trying_less, tried_none, tried_one}
