@@ -21,3 +21,6 @@ pub mod TightLaws
 pub mod SeatLaws
 pub mod Undercut
 pub mod Reaching
+pub mod Nearest
+pub mod Pathing
+pub mod Ending

@@ -108,6 +108,7 @@ pub record Step (o : Offers) (s : Seats) (p : Paths) (base : ℕ → ℤ) (i : �
 -- the first m steps' rows were gone through
 pub record Searched (o : Offers) (s : Seats) (p : Paths) (root m : ℕ) : Type 0 where
   pub base : ℕ → ℤ
+  pub few : p.step < 64
   pub root_base : base 0 ≡ pos 0
   pub root_node : entry p.nodes 0 ≡ root
   pub bases : (i : ℕ) → i ≤ p.step → nat_abs (base i) ≤ i * 2 ^ 41
@@ -117,8 +118,79 @@ pub record Searched (o : Offers) (s : Seats) (p : Paths) (root m : ℕ) : Type 0
   pub waits : (l : ℕ) → l < 64 → bit p.waiting l ≡ true → (far_of p l <ℤ unmet) × (Gone p l → ⊥)
   pub met : (l : ℕ) → l < 64 → far_of p l <ℤ unmet → (bit p.waiting l ≡ true) ⊎ Gone p l
 
+-- the nearest label that waits is held, and nearer than 255: a step goes from it
+pub record Onward (o : Offers) (s : Seats) (p : Paths) (root l : ℕ) : Type 0 where
+  pub turn : Turn o s p.prices root
+  pub searched : Searched o s p root (p.step + 1)
+  pub nearest : Nearest p l
+  pub held : bit s.free l ≡ false
+  pub home : far_of p l ≤ℤ p.home
+
 -- it ended at a label, to which there is no way nearer
-pub record Ended (o : Offers) (s : Seats) (p : Paths) (l : ℕ) : Type 0 where
-  pub kind : (bit s.free l ≡ true) × (l < 64) ⊎ (l ≡ 255)
+pub record Ended (s : Seats) (p : Paths) (l : ℕ) : Type 0 where
+  pub kind : ((l < 64) × (bit s.free l ≡ true)) ⊎ (l ≡ 255)
   pub met : far_of p l <ℤ unmet
   pub least : (k : ℕ) → (Gone p k → ⊥) → far_of p l ≤ℤ far_of p k
+
+-- ---- the prices after it
+
+-- the labels from which steps went are known, and no price grows large by what they are nearer than z
+pub record Raising (p : Paths) (z : ℤ) : Type 0 where
+  pub few : p.step < 64
+  pub small : (i : ℕ) → 0 < i → i ≤ p.step → entry p.labels i < 64
+  pub once : (i j : ℕ) → 0 < i → i < j → j ≤ p.step → entry p.labels i ≡ entry p.labels j → ⊥
+  pub apart : (i : ℕ) → 0 < i → i ≤ p.step → nat_abs (z -ℤ far_of p (entry p.labels i)) ≤ 2 ^ 50
+  pub fits : (i : ℕ) → 0 < i → i ≤ p.step → nat_abs (price p.prices (entry p.labels i) +ℤ (z -ℤ far_of p (entry p.labels i))) ≤ 2 ^ 50
+
+-- all but the prices
+pub record Stays (p p' : Paths) : Type 0 where
+  pub far : p'.far ≡ p.far
+  pub by : p'.by ≡ p.by
+  pub labels : p'.labels ≡ p.labels
+  pub nodes : p'.nodes ≡ p.nodes
+  pub step : p'.step ≡ p.step
+  pub home : p'.home ≡ p.home
+  pub home_by : p'.home_by ≡ p.home_by
+
+-- those of the first k steps' labels are raised
+pub record RaisedTo (p p' : Paths) (z : ℤ) (k : ℕ) : Type 0 where
+  pub stays : Stays p p'
+  pub size : length p'.prices ≡ 64
+  pub raised : (i : ℕ) → 0 < i → i < k → price p'.prices (entry p.labels i) ≡ price p.prices (entry p.labels i) +ℤ (z -ℤ far_of p (entry p.labels i))
+  pub others : (l : ℕ) → ((i : ℕ) → 0 < i → i < k → entry p.labels i ≡ l → ⊥) → price p'.prices l ≡ price p.prices l
+
+-- ---- the moves back
+
+-- u may take k, and no label costs it less with the prices
+pub record Best (sets : List ℕ) (own : List Bool) (c : ℕ → ℕ → ℤ) (prices : List ℤ) (u k : ℕ) : Type 0 where
+  pub may : opens sets own u k ≡ true
+  pub least : (j : ℕ) → opens sets own u j ≡ true → net c prices u k ≤ℤ net c prices u j
+
+-- the node of the step by which a label was found takes it at least cost
+abbrev pub Link : List ℕ → List Bool → (ℕ → ℕ → ℤ) → Paths → ℕ → Type 0
+Link sets own c p l = (by_of p l ≤ p.step) × Best sets own c p.prices (entry p.nodes (by_of p l)) l
+
+-- so it is of each label from which a step went, and that was found before
+pub record Trace (sets : List ℕ) (own : List Bool) (c : ℕ → ℕ → ℤ) (p : Paths) : Type 0 where
+  pub few : p.step < 64
+  pub small : (i : ℕ) → 0 < i → i ≤ p.step → entry p.labels i < 64
+  pub after : (i : ℕ) → 0 < i → i ≤ p.step → by_of p (entry p.labels i) < i
+  pub once : (i j : ℕ) → 0 < i → i < j → j ≤ p.step → entry p.labels i ≡ entry p.labels j → ⊥
+  pub links : (i : ℕ) → 0 < i → i ≤ p.step → Link sets own c p (entry p.labels i)
+
+-- The nodes below the root are placed at least cost, and the label l is free; the nodes of the steps up to the one by which it was found are where they were.
+pub record Opening (sets : List ℕ) (own : List Bool) (c : ℕ → ℕ → ℤ) (p : Paths) (taken : List ℕ) (free l : ℕ) : Type 0 where
+  pub root : entry p.nodes 0 < 64
+  pub seated : Seated own 64 (entry p.nodes 0) taken
+  pub least : (u k : ℕ) → u < entry p.nodes 0 → opens sets own u k ≡ true → net c p.prices u (entry taken u) ≤ℤ net c p.prices u k
+  pub idle : (x : ℕ) → x < 64 → bit free x ≡ true → (x ≡ l → ⊥) → price p.prices x ≡ pos 0
+  pub small : l < 64
+  pub here : bit free l ≡ true
+  pub link : Link sets own c p l
+  pub still : (i : ℕ) → 0 < i → i ≤ by_of p l → (entry p.nodes i < entry p.nodes 0) × (entry taken (entry p.nodes i) ≡ entry p.labels i)
+
+-- the nodes below n are placed at least cost
+pub record Settled (n : ℕ) (sets : List ℕ) (own : List Bool) (c : ℕ → ℕ → ℤ) (taken : List ℕ) (free : ℕ) (prices : List ℤ) : Type 0 where
+  pub seated : Seated own 64 n taken
+  pub least : (u k : ℕ) → u < n → opens sets own u k ≡ true → net c prices u (entry taken u) ≤ℤ net c prices u k
+  pub idle : (l : ℕ) → l < 64 → bit free l ≡ true → price prices l ≡ pos 0

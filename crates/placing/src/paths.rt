@@ -1,9 +1,9 @@
 // Shortest paths among the labels, from a node that is to be placed: over the nodes that hold labels to one that is free, or to 255.
-ghost use Rattle.std.specs.Prelude.{◌≡◌, ℕ, true, false, ◌+◌, ◌^◌, ◌≤◌, ◌<◌, ℤ, ◌+ℤ◌, ◌≤ℤ◌, slice_index_or, pos, unsigned_abs};
+ghost use Rattle.std.specs.Prelude.{◌≡◌, ℕ, true, false, ◌+◌, ◌^◌, ◌≤◌, ◌<◌, ℤ, ◌+ℤ◌, ◌≤ℤ◌, slice_index_or, pos, unsigned_abs, MatchOption};
 ghost use Rattle.integers.specs.Words.{bit};
 ghost use Rattle.placing.specs.Words.{entry, All};
 ghost use Rattle.placing.specs.Priced.{price};
-ghost use Rattle.placing.specs.Paths.{may, far_of, paid, Kind, Row, Turn, Nearest, Reached, Scanned, Searched};
+ghost use Rattle.placing.specs.Paths.{may, far_of, paid, Kind, Row, Turn, Nearest, Reached, Scanned, Searched, Onward, Ended, Raising, RaisedTo};
 
 use crate::offers::Offers;
 use crate::seats::Seats;
@@ -77,6 +77,19 @@ impl Paths {
         }
     }
 
+    // The least way to a label.
+    // Kept: of 255 too, as nothing is known of the range of a signed field of a struct that a loop changes.
+    fn way_to(&self, l: u8) -> i64
+        requires { Kind l }
+        ensures { result ≡ far_of self.now l }
+    {
+        if l < 64 {
+            at(&self.far, l)
+        } else {
+            self.home
+        }
+    }
+
     // The ways from the last step, which is at node `u`.
     fn scan(&mut self, offers: &Offers, u: usize, base: i64)
         requires { Row offers.now self.old u base }
@@ -99,7 +112,9 @@ impl Paths {
         let mut rest = self.waiting & (self.waiting - 1);
         while rest != 0 {
             let l = lowest(rest);
-            if at(&self.far, l) < at(&self.far, best) {
+            let far = at(&self.far, l);
+            let least = at(&self.far, best);
+            if far < least {
                 best = l;
             }
             rest &= rest - 1;
@@ -110,7 +125,7 @@ impl Paths {
     // Step 0, at the root.
     fn begin(&mut self, seats: &Seats, offers: &Offers, root: usize)
         requires { Turn offers.now seats.now self.old.prices root }
-        ensures { (self.new.prices ≡ self.old.prices) × Searched offers.now seats.now self.new root 1 }
+        ensures { (self.new.prices ≡ self.old.prices) × Searched offers.now seats.now self.new root (self.new.step + 1) }
     {
         self.far = [FAR; 64];
         self.home = FAR;
@@ -123,16 +138,56 @@ impl Paths {
 
     // A step more, at the node that holds the label.
     fn go(&mut self, seats: &Seats, offers: &Offers, l: u8)
-        requires { (root : ℕ) × Turn offers.now seats.now self.old.prices root × Searched offers.now seats.now self.old root (self.old.step + 1) × Nearest self.old l × (bit seats.now.free l ≡ false) × (far_of self.old l ≤ℤ self.old.home) }
-        ensures { (root : ℕ) → Turn offers.now seats.now self.old.prices root → Searched offers.now seats.now self.old root (self.old.step + 1) → (self.new.prices ≡ self.old.prices) × (self.new.step ≡ self.old.step + 1) × Searched offers.now seats.now self.new root (self.new.step + 1) }
+        requires { (root : ℕ) × Onward offers.now seats.now self.old root l }
+        ensures { (root : ℕ) → Onward offers.now seats.now self.old root l → (self.new.prices ≡ self.old.prices) × (self.new.step ≡ self.old.step + 1) × Searched offers.now seats.now self.new root (self.new.step + 1) }
     {
         let holder = seats.holders[usize::from(l)];
         let u = usize::from(holder);
-        let base = at(&self.far, l) - at(&self.prices, l) - offers.cost(u, l);
+        let far = at(&self.far, l);
+        let price = at(&self.prices, l);
+        let cost = offers.cost(u, l);
+        let base = far - price - cost;
         self.step += 1;
         self.labels[self.step] = l;
         self.nodes[self.step] = holder;
         self.waiting ^= bit_of(l);
         self.scan(offers, u, base);
+    }
+    // Goes from the root to the nearest label that is free, or to 255: the label where it ends, and none if no way leads on.
+    pub(crate) fn find_end(&mut self, seats: &Seats, offers: &Offers, root: usize) -> Option<u8>
+        requires { Turn offers.now seats.now self.old.prices root }
+        ensures same { self.new.prices ≡ self.old.prices }
+        ensures answer { MatchOption result ((q : ℕ → ℕ) → All offers.now.nodes.now.count offers.now.nodes.now.sets offers.now.nodes.now.own q → ⊥)
+            (λ end. Searched offers.now seats.now self.new root (self.new.step + 1) × Ended seats.now self.new end) }
+    {
+        self.begin(seats, offers, root);
+        while self.waiting != 0 {
+            let l = self.nearest();
+            let far = at(&self.far, l);
+            let home = self.way_to(255);
+            if home <= far {
+                return Some(255);
+            }
+            if has(seats.free, l) {
+                return Some(l);
+            }
+            self.go(seats, offers, l);
+        }
+        let home = self.way_to(255);
+        if home < FAR { Some(255) } else { None }
+    }
+
+    // The labels from which steps went cost more by as much as they are nearer than the end.
+    pub(crate) fn raise(&mut self, end: u8)
+        requires { Kind end × Raising self.old (far_of self.old end) }
+        ensures { RaisedTo self.old self.new (far_of self.old end) (self.old.step + 1) }
+    {
+        let whole = self.way_to(end);
+        for i in 1..self.step + 1 {
+            let l = self.labels[i];
+            let price = at(&self.prices, l);
+            let far = at(&self.far, l);
+            self.prices[usize::from(l)] = price + (whole - far);
+        }
     }
 }

@@ -1,0 +1,1 @@
+use Rattle.placing.proofs.paths.Paths.raise.Goals as goal
