@@ -24,3 +24,4 @@ pub mod Reaching
 pub mod Nearest
 pub mod Pathing
 pub mod Ending
+pub mod Raising

@@ -187,7 +187,8 @@ impl Paths {
             let l = self.labels[i];
             let price = at(&self.prices, l);
             let far = at(&self.far, l);
-            self.prices[usize::from(l)] = price + (whole - far);
+            let raised = price + (whole - far);
+            self.prices[usize::from(l)] = raised;
         }
     }
 }
