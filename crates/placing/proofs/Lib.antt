@@ -25,3 +25,4 @@ pub mod Nearest
 pub mod Pathing
 pub mod Ending
 pub mod Raising
+pub mod Returning
