@@ -26,3 +26,4 @@ pub mod Pathing
 pub mod Ending
 pub mod Raising
 pub mod Returning
+pub mod Tracing

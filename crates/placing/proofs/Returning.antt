@@ -56,7 +56,7 @@ module _ {sets : List ℕ} {own : List Bool} {c : ℕ → ℕ → ℤ} {p : Path
     pub still_left : (x : ℕ) → x < 64 → bit free x ≡ true → bit left x ≡ true
     still_left x g e = left_is x g ∙ left_true (eqb x from) e
 
-    left_back : (x : ℕ) → x < 64 → (x ≡ from → ⊥) → bit left x ≡ true → bit free x ≡ true
+    pub left_back : (x : ℕ) → x < 64 → (x ≡ from → ⊥) → bit left x ≡ true → bit free x ≡ true
     left_back x g d e = ⊎_elim (λ y. y) (λ y. absurd (d (eqb-true x from y))) (or_split (bit free x) (eqb x from) (sym (left_is x g) ∙ e))
 
     -- it takes l

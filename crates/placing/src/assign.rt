@@ -30,4 +30,37 @@ impl<'a> Seats<'a> {
         let root = usize::from(paths.nodes[0]);
         self.give(root, l);
     }
+
+    // Places the root, the nodes below it placed at least cost, so that all are; none if not all nodes can be placed.
+    fn place_root(&mut self, offers: &Offers, paths: &mut Paths, root: usize) -> Option<()>
+        requires { (self.old.nodes.now ≡ offers.now.nodes.now) × Turn offers.now self.old paths.old.prices root }
+        ensures same { self.new.nodes.now ≡ self.old.nodes.now }
+        ensures placed { MatchOption result ((q : ℕ → ℕ) → All offers.now.nodes.now.count offers.now.nodes.now.sets offers.now.nodes.now.own q → ⊥)
+            (λ _. Seated offers.now.nodes.now.own 64 (root + 1) self.new.taken × Priced (root + 1) offers.now.nodes.now.sets offers.now.nodes.now.own (paid offers.now) self.new.taken self.new.free paths.new.prices) }
+    {
+        let end = paths.find_end(self, offers, root)?;
+        paths.raise(end);
+        if end < 64 {
+            self.move_back(paths, end);
+        } else if paths.home_by != 0 {
+            let step = usize::from(paths.home_by);
+            self.leave(usize::from(paths.nodes[step]));
+            self.move_back(paths, paths.labels[step]);
+        }
+        Some(())
+    }
+
+    // Places all nodes at least total cost, and answers prices of the labels that show it; none if not all can be placed.
+    pub(crate) fn assign_all(&mut self, offers: &Offers) -> Option<[i64; 64]>
+        requires { (self.old.nodes.now ≡ offers.now.nodes.now) × ((u : ℕ) → u < 64 → entry self.old.taken u ≡ 255) }
+        ensures same { self.new.nodes.now ≡ self.old.nodes.now }
+        ensures placed { MatchOption result ((q : ℕ → ℕ) → All offers.now.nodes.now.count offers.now.nodes.now.sets offers.now.nodes.now.own q → ⊥)
+            (λ prices. Seated offers.now.nodes.now.own 64 offers.now.nodes.now.count self.new.taken × Priced offers.now.nodes.now.count offers.now.nodes.now.sets offers.now.nodes.now.own (paid offers.now) self.new.taken self.new.free prices) }
+    {
+        let mut paths = Paths::new();
+        for root in 0..self.nodes.count {
+            self.place_root(offers, &mut paths, root)?;
+        }
+        Some(paths.prices)
+    }
 }

@@ -1,0 +1,1 @@
+use Rattle.placing.proofs.seats.Seats.assign_all.Goals as goal
