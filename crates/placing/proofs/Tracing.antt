@@ -1,23 +1,26 @@
 -- After a search, with the prices raised: each node of a step costs least at its label and at those found by it, and the others cost least where they are.
 -- Assumes nothing.
 use mathlib.Core.Path.{◌≡◌, refl, sym, ap, ◌∙◌, subst}
-use mathlib.Core.Bool.{true, false}
+use mathlib.Core.Bool.{Bool, true, false}
 use mathlib.Core.List.{List}
 use mathlib.Core.Logic.{◌⊎◌, inl, inr, ⊎_elim}
 use Prim.Native.Nat.{ℕ, zero, suc, ◌+◌, ◌*◌, ◌^◌, ◌≤◌, ◌<◌}
 use native.Mathlib.Omega.{arith}
 use lib.IntN.{ℤ, pos, ◌+ℤ◌, ◌-ℤ◌, nat_abs}
 use lib.Signed.{◌≤ℤ◌, ◌<ℤ◌}
-use lib.ListN.{length, set}
+use borrow.Author.Tests.{ltb-true, ltb-false}
+use lib.Dec.{ltb}
+use lib.ListN.{length, set, replicate, get_or-replicate}
 use lib.Seq.{get_or-set_same, get_or-set_other}
 use Rattle.integers.specs.Words.{bit}
+use Rattle.integers.proofs.Places.{by-test}
 use Rattle.integers.proofs.Parts.{linear, parts, add, sub, abs, apart}
 use Rattle.integers.proofs.Order.{le_refl}
 use Rattle.assignment.proofs.Counts.{differ, by-same}
 use Rattle.placing.specs.declared.offers.Offers.{Offers}
 use Rattle.placing.specs.declared.paths.Paths.{Paths}
 use Rattle.placing.specs.declared.seats.Seats.{Seats}
-use Rattle.placing.specs.Words.{entry, flag, opens, Joined}
+use Rattle.placing.specs.Words.{entry, flag, opens, Joined, Seated}
 use Rattle.placing.specs.Priced.{price, net, Priced}
 use Rattle.placing.specs.Paths.{paid, may, way, unmet, far_of, by_of, Turn, Gone, Step, Searched, Ended, Raising, RaisedTo, Best, Link, Trace, Opening, Settled}
 use Rattle.placing.proofs.Reaching.{price_beyond}
@@ -249,7 +252,7 @@ module _ {o : Offers} {s : Seats} {p : Paths} {root : ℕ} (t : Turn o s p.price
             → Opening o.nodes.now.sets o.nodes.now.own (paid o) raised (set s.taken (entry p.nodes i) 255) left (entry p.labels i)
         home_raised {left} joined =
             let g = (best_home b).0 in
-            let seated = subst (λ k. Rattle.placing.specs.Words.Seated o.nodes.now.own 64 k s.taken) (sym v.root_node) t.seated in
+            let seated = subst (λ k. Seated o.nodes.now.own 64 k s.taken) (sym v.root_node) t.seated in
             let low = (λ (u j : ℕ) (h : u < entry p.nodes 0) (a : may o u j). least u j (omega (arith, v.root_node)) a) in
             opened trace_raised t.linked root_room seated low some g (λ j x y. still i j g x y) joined (best_home b).1 (λ _. refl) refl
             (from_free trace_raised t.linked root_room seated low some g (λ j x y. still i j g x y) joined)
@@ -262,3 +265,22 @@ module _ {o : Offers} {s : Seats} {p : Paths} {root : ℕ} (t : Turn o s p.price
     -- the nodes placed then, with the prices
     pub settled_priced : {taken : List ℕ} {free : ℕ} → Settled (root + 1) o.nodes.now.sets o.nodes.now.own (paid o) taken free q.prices → Priced (root + 1) o.nodes.now.sets o.nodes.now.own (paid o) taken free q.prices
     settled_priced m = record { size = r.size; floor = prices_floor; top = prices_top; least = m.least; idle = m.idle }
+
+-- ---- no node is placed
+
+no_prices : (l : ℕ) → price (replicate 64 (pos 0)) l ≡ pos 0
+no_prices l = by-test (ltb l 64)
+    (λ h. get_or-replicate 64 l (pos 0) (pos 0) (ltb-true l 64 h))
+    (λ h. price_beyond (replicate 64 (pos 0)) l refl (ltb-false l 64 h))
+
+pub seated_none : (own : List Bool) {taken : List ℕ} → ((u : ℕ) → u < 64 → entry taken u ≡ 255) → Seated own 64 0 taken
+seated_none own f = record { seat = λ u h g. absurd (omega arith); later = λ u h g. f u g; vacant = λ u h g. absurd (omega arith) }
+
+pub priced_none : (sets : List ℕ) (own : List Bool) (c : ℕ → ℕ → ℤ) (taken : List ℕ) (free : ℕ) → Priced 0 sets own c taken free (replicate 64 (pos 0))
+priced_none sets own c taken free = record {
+  size = refl;
+  floor = λ l. let e = no_prices l in omega (linear, e);
+  top = λ l. rw (no_prices l) (omega arith);
+  least = λ u k h. absurd (omega arith);
+  idle = λ l h f. no_prices l;
+}

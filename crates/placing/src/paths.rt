@@ -1,5 +1,5 @@
 // Shortest paths among the labels, from a node that is to be placed: over the nodes that hold labels to one that is free, or to 255.
-ghost use Rattle.std.specs.Prelude.{◌≡◌, ℕ, true, false, ◌+◌, ◌^◌, ◌≤◌, ◌<◌, ℤ, ◌+ℤ◌, ◌≤ℤ◌, slice_index_or, pos, unsigned_abs, MatchOption};
+ghost use Rattle.std.specs.Prelude.{◌≡◌, ℕ, true, false, ◌+◌, ◌^◌, ◌≤◌, ◌<◌, ℤ, ◌+ℤ◌, ◌≤ℤ◌, slice_index_or, replicate, pos, unsigned_abs, MatchOption};
 ghost use Rattle.integers.specs.Words.{bit};
 ghost use Rattle.placing.specs.Words.{entry, All};
 ghost use Rattle.placing.specs.Priced.{price};
@@ -39,7 +39,7 @@ pub(crate) struct Paths {
 impl Paths {
     // No label has a price.
     pub(crate) fn new() -> Paths
-        ensures { (l : ℕ) → price result.prices l ≡ pos 0 }
+        ensures { result.prices ≡ replicate 64 (pos 0) }
     {
         Paths {
             prices: [0; 64],
