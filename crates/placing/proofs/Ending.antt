@@ -1,17 +1,15 @@
 -- The end of a search: at a free label, at 255, or with no way on, and then not all nodes can be placed.
 -- Assumes nothing.
 use mathlib.Core.Path.{◌≡◌, refl, sym, ap, ◌∙◌}
-use mathlib.Core.Bool.{true, false}
+use mathlib.Core.Bool.{true}
 use mathlib.Core.Logic.{inl, inr, ⊎_elim}
 use Prim.Native.Nat.{ℕ, suc, ◌+◌, ◌-◌, ◌≤◌, ◌<◌}
 use native.Mathlib.Omega.{arith}
-use lib.IntN.{ℤ}
 use lib.Signed.{◌≤ℤ◌, ◌<ℤ◌, lt_z}
 use Rattle.integers.specs.Words.{bit}
 use Rattle.integers.proofs.Words.{bit_zero}
 use Rattle.integers.proofs.Places.{by-test}
 use Rattle.integers.proofs.Parts.{linear}
-use Rattle.integers.proofs.Order.{le_refl, le_trans}
 use Rattle.assignment.proofs.Counts.{differ, pigeonhole}
 use Rattle.placing.specs.declared.offers.Offers.{Offers}
 use Rattle.placing.specs.declared.paths.Paths.{Paths}
@@ -54,15 +52,15 @@ module _ {o : Offers} {s : Seats} {p : Paths} {root : ℕ} (t : Turn o s p.price
     pub ended_none : (q : ℕ → ℕ) → All o.nodes.now.count o.nodes.now.sets o.nodes.now.own q → ⊥
     ended_none q m =
         let b = pigeonhole (λ i j. (i ≤ p.step) × (entry p.labels (suc j) ≡ q (entry p.nodes i)))
-            (λ i j k x y.
-            let z : q (entry p.nodes i) < 64 = (exits i _ x.0 (m.allowed (entry p.nodes i) (node_few t v i x.0))).0 in
-            nodes_once t v i j x.0 y.0 (m.distinct (entry p.nodes i) (entry p.nodes j) (node_few t v i x.0) (node_few t v j y.0) (same_slot (entry p.nodes i) (entry p.nodes j) z (sym x.1 ∙ y.1))))
-            (suc p.step) p.step (λ _. true) (λ _. true)
-            (λ i k _.
-            let g : i ≤ p.step = omega arith in
-            let (j, a, d, e) = (exits i _ g (m.allowed (entry p.nodes i) (node_few t v i g))).1 in
-            let z : suc (j - 1) ≡ j = omega arith in
-            (j - 1, omega arith, refl, (g, ap (entry p.labels) z ∙ e))) in
+        (λ i j k x y.
+        let z : q (entry p.nodes i) < 64 = (exits i _ x.0 (m.allowed (entry p.nodes i) (node_few t v i x.0))).0 in
+        nodes_once t v i j x.0 y.0 (m.distinct (entry p.nodes i) (entry p.nodes j) (node_few t v i x.0) (node_few t v j y.0) (same_slot (entry p.nodes i) (entry p.nodes j) z (sym x.1 ∙ y.1))))
+        (suc p.step) p.step (λ _. true) (λ _. true)
+        (λ i k _.
+        let g : i ≤ p.step = omega arith in
+        let (j, a, d, e) = (exits i _ g (m.allowed (entry p.nodes i) (node_few t v i g))).1 in
+        let z : suc (j - 1) ≡ j = omega arith in
+        (j - 1, omega arith, refl, (g, ap (entry p.labels) z ∙ e))) in
         let e = count_all (suc p.step) in
         let e' = count_all p.step in
         omega arith

@@ -1,17 +1,14 @@
 -- The label that waits with the least way: one label after another.
 -- Assumes nothing.
-use mathlib.Core.Path.{◌≡◌, refl, sym, ap, ◌∙◌, subst}
-use mathlib.Core.Bool.{true, false}
+use mathlib.Core.Path.{◌≡◌, sym, ap, ◌∙◌, subst}
+use mathlib.Core.Bool.{true}
 use mathlib.Core.Logic.{◌⊎◌, inl, inr, ⊎_elim}
 use Prim.Native.Nat.{ℕ, ◌-◌, ◌^◌, ◌<◌}
-use native.Mathlib.Omega.{arith}
 use lib.Bits.{bit_and}
 use lib.Count.{count_trailing_zeros}
-use lib.IntN.{ℤ}
 use lib.Signed.{◌≤ℤ◌}
 use Rattle.integers.specs.Words.{bit}
 use Rattle.integers.proofs.Words.{lowest, lowest_off, bit_small, bit_zero}
-use Rattle.integers.proofs.Parts.{linear}
 use Rattle.integers.proofs.Order.{le_refl, le_trans}
 use Rattle.assignment.proofs.Counts.{differ, by-same}
 use Rattle.placing.specs.declared.paths.Paths.{Paths}

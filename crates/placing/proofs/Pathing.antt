@@ -1,10 +1,10 @@
 -- A search for a label of least cost: its start, a step more, and a row gone through.
 -- Assumes nothing.
-use mathlib.Core.Path.{◌≡◌, refl, sym, ap, ap₂, ◌∙◌, subst, transport}
-use mathlib.Core.Bool.{Bool, true, false, cond}
+use mathlib.Core.Path.{◌≡◌, refl, sym, ap, ◌∙◌, subst}
+use mathlib.Core.Bool.{true, false, cond}
 use mathlib.Core.List.{List}
 use mathlib.Core.Logic.{◌⊎◌, inl, inr, ⊎_elim}
-use Prim.Native.Nat.{ℕ, zero, suc, ◌+◌, ◌-◌, ◌*◌, ◌^◌, ◌≤◌, ◌<◌}
+use Prim.Native.Nat.{ℕ, zero, suc, ◌+◌, ◌*◌, ◌^◌, ◌≤◌, ◌<◌}
 use native.Mathlib.Omega.{arith}
 use borrow.Author.Tests.{eq-eqb, ne_eqb, eqb-true, ltb-true, ltb-false}
 use lib.Dec.{eqb, ltb}
@@ -17,17 +17,17 @@ use Rattle.integers.specs.Words.{bit}
 use Rattle.integers.proofs.Words.{bit_zero, bit_dropped, bit_kept}
 use Rattle.integers.proofs.Places.{by-test, if-true, if-false}
 use Rattle.integers.proofs.Parts.{◌⁺, ◌⁻, linear, parts, add, sub, abs, apart}
-use Rattle.integers.proofs.Order.{le_refl, le_trans}
+use Rattle.integers.proofs.Order.{le_trans}
 use Rattle.assignment.specs.Rows.{count}
 use Rattle.assignment.proofs.Counts.{differ, by-same, pigeonhole}
 use Rattle.placing.specs.declared.offers.Offers.{Offers}
 use Rattle.placing.specs.declared.paths.Paths.{Paths}
 use Rattle.placing.specs.declared.seats.Seats.{Seats}
 use Rattle.placing.specs.Words.{entry}
-use Rattle.placing.specs.Priced.{price, net}
-use Rattle.placing.specs.Paths.{paid, may, way, unmet, far_of, by_of, Kept, Same, Nearer, Row, Scanned, Nearest, Turn, Gone, Step, Searched}
+use Rattle.placing.specs.Priced.{price}
+use Rattle.placing.specs.Paths.{paid, may, way, unmet, far_of, by_of, Kept, Same, Scanned, Nearest, Turn, Gone, Step, Searched}
 use Rattle.placing.proofs.Offering.{paid_within}
-use Rattle.placing.proofs.Reaching.{far_small, by_small, far_home}
+use Rattle.placing.proofs.Reaching.{far_small, far_home}
 use Rattle.placing.proofs.Slots.{opens-bit}
 
 -- a sum of three
@@ -98,15 +98,15 @@ module _ {o : Offers} {s : Seats} {p : Paths} {root : ℕ} (t : Turn o s p.price
     nodes_once i j g k e = by-same i 0
         (λ x. by-same j 0 (λ y. x ∙ sym y) (λ y. let a = step_node j (omega arith) k in let r = v.root_node in absurd (omega (arith, a.0, ap (entry p.nodes) x))))
         (λ x. by-same j 0 (λ y. let a = step_node i (omega arith) g in let r = v.root_node in absurd (omega (arith, a.0, ap (entry p.nodes) y)))
-            (λ y. labels_once i j (omega arith) g (omega arith) k (sym (step_node i (omega arith) g).1 ∙ ap (entry s.taken) e ∙ (step_node j (omega arith) k).1)))
+        (λ y. labels_once i j (omega arith) g (omega arith) k (sym (step_node i (omega arith) g).1 ∙ ap (entry s.taken) e ∙ (step_node j (omega arith) k).1)))
 
     -- a label that is none of a step's and is held: so far there are fewer steps than nodes below the root
     pub steps_few : (l : ℕ) → l < 64 → bit s.free l ≡ false → (Gone p l → ⊥) → p.step < root
     steps_few l h f d =
         let b = pigeonhole (λ i u. (i ≤ p.step) × (entry s.holders (at i) ≡ u))
-            (λ i j u x y. once i j x.0 y.0 (sym (held i x.0).1 ∙ ap (entry s.taken) (x.1 ∙ sym y.1) ∙ (held j y.0).1))
-            (suc p.step) root (λ _. true) (λ _. true)
-            (λ i k _. let g : i ≤ p.step = omega arith in (entry s.holders (at i), (held i g).0, refl, (g, refl))) in
+        (λ i j u x y. once i j x.0 y.0 (sym (held i x.0).1 ∙ ap (entry s.taken) (x.1 ∙ sym y.1) ∙ (held j y.0).1))
+        (suc p.step) root (λ _. true) (λ _. true)
+        (λ i k _. let g : i ≤ p.step = omega arith in (entry s.holders (at i), (held i g).0, refl, (g, refl))) in
         let e = count_all (suc p.step) in
         let e' = count_all root in
         omega arith
@@ -130,8 +130,8 @@ module _ {o : Offers} {s : Seats} {p : Paths} {root : ℕ} (t : Turn o s p.price
         once i j g k e = by-same i 0
             (λ x. by-same j 0 (λ y. x ∙ sym y) (λ y. absurd (d (j, omega arith, k, sym (at_step j y) ∙ sym e ∙ at_zero i x))))
             (λ x. by-same j 0
-                (λ y. absurd (d (i, omega arith, g, sym (at_step i x) ∙ e ∙ at_zero j y)))
-                (λ y. labels_once i j (omega arith) g (omega arith) k (sym (at_step i x) ∙ e ∙ at_step j y)))
+            (λ y. absurd (d (i, omega arith, g, sym (at_step i x) ∙ e ∙ at_zero j y)))
+            (λ y. labels_once i j (omega arith) g (omega arith) k (sym (at_step i x) ∙ e ∙ at_step j y)))
 
     -- the nearest label that waits is as near as any from which no step went
     pub nearest_all : {l : ℕ} → Nearest p l → far_of p l ≤ℤ p.home → (k : ℕ) → (Gone p k → ⊥) → far_of p l ≤ℤ far_of p k
@@ -168,8 +168,15 @@ module _ {o : Offers} {s : Seats} {p : Paths} {root : ℕ} (t : Turn o s p.price
           let near : far_of p (entry p.labels i) ≤ℤ far_of p x = (v.steps i h g).nearest x (λ j y z q. e.once j y (omega arith) q) in
           let (n, y) = step_node p.step (omega arith) (omega arith) in
           let least = pays_least t u x k n y a in
-          omega (linear, e.base_is, add3 b (paid o u k) (price p.prices k), add (paid o u k) (price p.prices k), add (paid o u x) (price p.prices x),
-          sub (far_of p x -ℤ price p.prices x) (paid o u x), sub (far_of p x) (price p.prices x))
+          omega (
+            linear,
+            e.base_is,
+            add3 b (paid o u k) (price p.prices k),
+            add (paid o u k) (price p.prices k),
+            add (paid o u x) (price p.prices x),
+            sub (far_of p x -ℤ price p.prices x) (paid o u x),
+            sub (far_of p x) (price p.prices x),
+          )
 
       module _ (w : Paths) (r : Scanned o p (after p w) u b) where
         abbrev q : Paths

@@ -4,25 +4,25 @@ use mathlib.Core.Path.{◌≡◌, refl, sym, ap, ◌∙◌, subst}
 use mathlib.Core.Bool.{Bool, true, false, cond}
 use mathlib.Core.List.{List}
 use mathlib.Core.Logic.{◌⊎◌, inl, inr, ⊎_elim}
-use Prim.Native.Nat.{ℕ, suc, ◌+◌, ◌^◌, ◌≤◌, ◌<◌}
+use Prim.Native.Nat.{ℕ, ◌+◌, ◌^◌, ◌≤◌, ◌<◌}
 use native.Mathlib.Omega.{arith}
-use borrow.Author.Tests.{lt-ltb, le-ltb, ne_eqb, eq-eqb, eqb-true, ltb-true, ltb-false}
+use borrow.Author.Tests.{lt-ltb, ne_eqb, eqb-true, ltb-true}
 use lib.Dec.{eqb, ltb}
 use lib.Bits.{bit_or}
-use lib.IntN.{ℤ, pos, ◌+ℤ◌, nat_abs}
+use lib.IntN.{ℤ, pos}
 use lib.Signed.{◌≤ℤ◌, ◌<ℤ◌}
 use lib.ListN.{length, get_or, set, get_or-eq_default}
 use lib.Seq.{get_or-set_same, get_or-set_other}
 use Rattle.integers.specs.Words.{bit}
 use Rattle.integers.proofs.Words.{bit_or_lem, bit_power, bit_own}
 use Rattle.integers.proofs.Places.{by-test, if-true, if-false, right_true}
-use Rattle.integers.proofs.Parts.{linear, add}
+use Rattle.integers.proofs.Parts.{linear}
 use Rattle.assignment.proofs.Counts.{by-same}
 use Rattle.placing.specs.declared.offers.Offers.{Offers}
 use Rattle.placing.specs.declared.paths.Paths.{Paths}
 use Rattle.placing.specs.Words.{entry}
 use Rattle.placing.specs.Priced.{price}
-use Rattle.placing.specs.Paths.{may, paid, way, unmet, far_of, by_of, Kept, Same, Nearer, Reached, Scanned}
+use Rattle.placing.specs.Paths.{may, way, far_of, by_of, Kept, Same, Nearer, Reached, Scanned}
 
 -- ---- the two tables by the kind of label
 

@@ -11,7 +11,7 @@ use lib.Bits.{bit_xor}
 use lib.Dec.{eqb}
 use lib.IntN.{ℤ, pos}
 use lib.Signed.{◌≤ℤ◌}
-use lib.ListN.{length, set}
+use lib.ListN.{set}
 use lib.Seq.{get_or-set_same, get_or-set_other}
 use Rattle.std.proofs.lemmas.List.{set-set}
 use Rattle.integers.specs.Words.{bit}
@@ -21,7 +21,7 @@ use Rattle.assignment.proofs.Counts.{differ, by-same}
 use Rattle.placing.specs.declared.paths.Paths.{Paths}
 use Rattle.placing.specs.Words.{entry, flag, opens, Linked, Joined, Seated}
 use Rattle.placing.specs.Priced.{price, net}
-use Rattle.placing.specs.Paths.{by_of, Best, Link, Trace, Opening, Settled}
+use Rattle.placing.specs.Paths.{by_of, Best, Trace, Opening, Settled}
 use Rattle.placing.proofs.Slots.{opens-bit, opens-own}
 
 -- ---- a node leaves its label for another one that costs it least, or for 255: the label of its step is free now
@@ -138,8 +138,8 @@ module _ {sets : List ℕ} {own : List Bool} {c : ℕ → ℕ → ℤ} {p : Path
           opened tr k v.root v.seated v.least some inside still joined best (λ h. absurd (let s = v.small in omega arith)) (et ∙ set-set taken (entry p.nodes i) 255 l)
           (ap (λ (w : ℕ). bit w from') ef ∙ bit_kept left l from' (λ e. differ v.here (ap (bit free) (sym e) ∙ held)) ∙ from_free tr k v.root v.seated v.least some inside still joined)
           (λ x h b d. by-same x l
-              (λ e. absurd (differ b (ap (λ (w : ℕ). bit w x) ef ∙ ap (bit (bit_xor left (2 ^ l))) e ∙ bit_dropped left l move_free)))
-              (λ q. v.idle x h (left_back tr k v.root v.seated v.least some inside still joined x h d (sym (bit_kept left l x q) ∙ ap (λ (w : ℕ). bit w x) (sym ef) ∙ b)) q))
+          (λ e. absurd (differ b (ap (λ (w : ℕ). bit w x) ef ∙ ap (bit (bit_xor left (2 ^ l))) e ∙ bit_dropped left l move_free)))
+          (λ q. v.idle x h (left_back tr k v.root v.seated v.least some inside still joined x h d (sym (bit_kept left l x q) ∙ ap (λ (w : ℕ). bit w x) (sym ef) ∙ b)) q))
         where
           held : bit free from' ≡ false
           held = from_held tr k v.root v.seated v.least some inside still

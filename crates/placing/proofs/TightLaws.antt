@@ -1,9 +1,9 @@
 -- Rows of tight cells, label by label.
 -- Assumes nothing.
 use mathlib.Core.Path.{◌≡◌, refl, sym, ap, ◌∙◌, subst}
-use mathlib.Core.Bool.{Bool, true, false, ◌&&◌, ◌||◌}
+use mathlib.Core.Bool.{Bool, true, false, ◌&&◌}
 use mathlib.Core.List.{List}
-use mathlib.Core.Logic.{◌⊎◌, inl, inr, ⊎_elim}
+use mathlib.Core.Logic.{inl, inr, ⊎_elim}
 use Prim.Native.Nat.{ℕ, ◌+◌, ◌^◌, ◌≤◌, ◌<◌}
 use native.Mathlib.Omega.{arith}
 use borrow.Author.Tests.{eqb-true, ltb-true, lt-ltb}
@@ -22,7 +22,7 @@ use Rattle.placing.specs.declared.tables.Row.{Row}
 use Rattle.assignment.proofs.Counts.{differ, by-same}
 use Rattle.placing.specs.Words.{entry, opens}
 use Rattle.placing.specs.Priced.{price, net, Tight, Unpriced}
-use Rattle.placing.specs.Paths.{paid, may}
+use Rattle.placing.specs.Paths.{paid}
 use Rattle.placing.specs.TightRows.{in_row, Joins, RowTight}
 use Rattle.placing.proofs.Slots.{Kinds, opens_kinds}
 use Rattle.placing.proofs.Linking.{words_none, words_set}

@@ -1,20 +1,19 @@
 -- After a search, with the prices raised: each node of a step costs least at its label and at those found by it, and the others cost least where they are.
 -- Assumes nothing.
 use mathlib.Core.Path.{◌≡◌, refl, sym, ap, ◌∙◌, subst}
-use mathlib.Core.Bool.{Bool, true, false}
+use mathlib.Core.Bool.{Bool, true}
 use mathlib.Core.List.{List}
 use mathlib.Core.Logic.{◌⊎◌, inl, inr, ⊎_elim}
-use Prim.Native.Nat.{ℕ, zero, suc, ◌+◌, ◌*◌, ◌^◌, ◌≤◌, ◌<◌}
+use Prim.Native.Nat.{ℕ, zero, suc, ◌+◌, ◌^◌, ◌≤◌, ◌<◌}
 use native.Mathlib.Omega.{arith}
 use lib.IntN.{ℤ, pos, ◌+ℤ◌, ◌-ℤ◌, nat_abs}
 use lib.Signed.{◌≤ℤ◌, ◌<ℤ◌}
 use borrow.Author.Tests.{ltb-true, ltb-false}
 use lib.Dec.{ltb}
-use lib.ListN.{length, set, replicate, get_or-replicate}
-use lib.Seq.{get_or-set_same, get_or-set_other}
+use lib.ListN.{set, replicate, get_or-replicate}
 use Rattle.integers.specs.Words.{bit}
 use Rattle.integers.proofs.Places.{by-test}
-use Rattle.integers.proofs.Parts.{linear, parts, add, sub, abs, apart}
+use Rattle.integers.proofs.Parts.{linear, add, sub, abs, apart}
 use Rattle.integers.proofs.Order.{le_refl}
 use Rattle.assignment.proofs.Counts.{differ, by-same}
 use Rattle.placing.specs.declared.offers.Offers.{Offers}
@@ -22,11 +21,11 @@ use Rattle.placing.specs.declared.paths.Paths.{Paths}
 use Rattle.placing.specs.declared.seats.Seats.{Seats}
 use Rattle.placing.specs.Words.{entry, flag, opens, Joined, Seated}
 use Rattle.placing.specs.Priced.{price, net, Priced}
-use Rattle.placing.specs.Paths.{paid, may, way, unmet, far_of, by_of, Turn, Gone, Step, Searched, Ended, Raising, RaisedTo, Best, Link, Trace, Opening, Settled}
+use Rattle.placing.specs.Paths.{paid, may, way, unmet, far_of, by_of, Turn, Gone, Searched, Ended, Raising, RaisedTo, Best, Link, Trace, Opening, Settled}
 use Rattle.placing.proofs.Reaching.{price_beyond}
 use Rattle.placing.proofs.Slots.{opens-own}
 use Rattle.placing.proofs.Pathing.{add3, root_few, length_fits, labels_once, step_node}
-use Rattle.placing.proofs.Returning.{mover_few, from_free, left_back, opened}
+use Rattle.placing.proofs.Returning.{from_free, left_back, opened}
 
 -- whether a step went from a label
 gone_below : (p : Paths) (k n : ℕ) → n ≤ p.step → Gone p k ⊎ ((i : ℕ) → 0 < i → i ≤ n → entry p.labels i ≡ k → ⊥)

@@ -1,20 +1,17 @@
 -- Of the placings on tight cells that take all labels with a price, the smallest is the assignment: it costs least, and is the first of those that do.
 -- Assumes nothing.
-use mathlib.Core.Path.{◌≡◌, refl, sym, ap, ◌∙◌}
+use mathlib.Core.Path.{◌≡◌, sym, ap, ◌∙◌}
 use mathlib.Core.Bool.{Bool, true, false}
-use mathlib.Core.List.{List, [], ◌∷◌}
-use mathlib.Core.Logic.{◌⊎◌, inl, inr, ⊎_elim}
+use mathlib.Core.List.{List}
+use mathlib.Core.Logic.{⊎_elim}
 use mathlib.Core.Option.{none, some}
 use Prim.Native.Nat.{ℕ, ◌+◌, ◌≤◌, ◌<◌}
 use native.Mathlib.Omega.{arith}
 use borrow.Author.Tests.{eqb-true, eqb-false, ltb-true, ltb-false}
 use lib.Dec.{eqb, ltb}
-use lib.ListN.{length, get_or, get_or-eq_default}
+use lib.ListN.{length, get_or-eq_default}
 use lib.IntN.{ℤ, pos, ◌+ℤ◌}
-use lib.Signed.{◌≤ℤ◌}
 use Rattle.integers.specs.Words.{bit}
-use Rattle.integers.specs.Places.{tabulate, total}
-use Rattle.integers.proofs.Parts.{linear}
 use Rattle.integers.proofs.Order.{le_refl, le_trans}
 use Rattle.integers.proofs.Places.{by-test}
 use Rattle.integers.proofs.Totals.{total_ext}

@@ -1,5 +1,5 @@
 -- The matching with the least sum of node costs, as the code answers it (document 02, wish 6).
-use Rattle.std.specs.Prelude.{◌≡◌, true, false, ℕ, ◌≤◌, ◌<◌, Option, None, Some, List, ℤ, pos, slice_index, slice_index_or}
+use Rattle.std.specs.Prelude.{◌≡◌, true, ℕ, ◌≤◌, ◌<◌, Option, None, Some, List, ℤ, pos, slice_index, slice_index_or}
 use Rattle.std.proofs.Math.Option.{Option as Choice, none, some}
 use Rattle.integers.specs.Words.{bit}
 use Rattle.integers.specs.Places.{tabulate}

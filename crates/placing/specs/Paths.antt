@@ -5,7 +5,7 @@ use Rattle.instance.specs.Sheet.{instance_of}
 use Rattle.placing.specs.declared.offers.Offers.{Offers}
 use Rattle.placing.specs.declared.paths.Paths.{Paths}
 use Rattle.placing.specs.declared.seats.Seats.{Seats}
-use Rattle.placing.specs.Words.{entry, flag, opens, All, Linked, Seated}
+use Rattle.placing.specs.Words.{entry, opens, Linked, Seated}
 use Rattle.placing.specs.Priced.{cost_at, price, net, Priced}
 
 -- what node u pays for its label l, and whether it has that

@@ -1,5 +1,5 @@
 -- A placing of least cost, by prices of the labels: each node is where its cost and the label's price are least together, and only labels that are taken have a price.
-use Rattle.std.specs.Prelude.{◌≡◌, Bool, true, false, List, ℕ, ◌+◌, ◌^◌, ◌≤◌, ◌<◌, length, get_or, ℤ, pos, ◌+ℤ◌, ◌≤ℤ◌, nat_abs}
+use Rattle.std.specs.Prelude.{◌≡◌, Bool, true, List, ℕ, ◌+◌, ◌^◌, ◌≤◌, ◌<◌, length, get_or, ℤ, pos, ◌+ℤ◌, ◌≤ℤ◌, nat_abs}
 use Rattle.integers.specs.Words.{bit}
 use Rattle.instance.specs.Instance.{Instance, first}
 use Rattle.placing.specs.Words.{entry, opens, rank}

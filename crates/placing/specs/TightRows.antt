@@ -1,5 +1,5 @@
 -- The tight cells of one node, as a word and a flag.
-use Rattle.std.specs.Prelude.{◌≡◌, Bool, true, cond, ◌&&◌, ◌||◌, List, ◌⊎◌, ℕ, ◌^◌, ◌≤◌, ◌<◌, eqb, ltb, ℤ, ◌≤ℤ◌}
+use Rattle.std.specs.Prelude.{◌≡◌, Bool, true, cond, ◌&&◌, List, ◌⊎◌, ℕ, ◌^◌, ◌≤◌, ◌<◌, eqb, ltb, ℤ, ◌≤ℤ◌}
 use Rattle.integers.specs.Words.{bit}
 use Rattle.placing.specs.declared.tables.Row.{Row}
 use Rattle.placing.specs.Words.{opens}

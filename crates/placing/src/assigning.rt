@@ -10,7 +10,6 @@ ghost use Rattle.placing.specs.Words.{entry, rank, Full, Seated, Holds};
 ghost use Rattle.placing.specs.Assigning.{node_costs, rounded_by, Seatable};
 
 use crate::answer::write_positions;
-use crate::assign::assign_all;
 use crate::offers::Offers;
 use crate::seats::Seats;
 use crate::tables::{Nodes, lay_words};
@@ -76,7 +75,7 @@ pub fn cheapest(costed: &Costed) -> Option<[u8; 64]>
         nodes: &nodes,
     };
     let mut seats = Seats::new(&nodes);
-    let prices = assign_all(&mut seats, &offers)?;
+    let prices = seats.assign_all(&offers)?;
     let tight = offers.tight(&seats.taken, &prices);
     let taken = smallest_full(&tight, &seats.taken, unpriced(&prices));
     Some(positions(&nodes, &taken))

@@ -83,11 +83,7 @@ impl Paths {
         requires { Kind l }
         ensures { result ≡ far_of self.now l }
     {
-        if l < 64 {
-            at(&self.far, l)
-        } else {
-            self.home
-        }
+        if l < 64 { at(&self.far, l) } else { self.home }
     }
 
     // The ways from the last step, which is at node `u`.

@@ -1,5 +1,5 @@
 -- `cheapest` meets its contract: the smallest of the placings on tight cells that take all labels with a price; or none.
-use Rattle.std.proofs.Common.{◌≡◌, sym, ap, ◌∙◌, subst, Bool, List, ℕ, ℤ, ◌≤◌, ◌<◌, true, arith, Some, None, get_or}
+use Rattle.std.proofs.Common.{◌≡◌, sym, ap, ◌∙◌, subst, List, ℕ, ℤ, ◌≤◌, ◌<◌, arith, Some, get_or}
 use Rattle.integers.specs.Places.{tabulate}
 use Rattle.instance.specs.declared.sheet.Sheet.{Sheet}
 use Rattle.instance.specs.Instance.{Instance}
@@ -13,7 +13,7 @@ use Rattle.placing.specs.declared.seats.Seats.{Seats}
 use Rattle.placing.specs.Assigning.{node_costs, rounded_by, Seatable}
 use Rattle.placing.proofs.Answers.{ranks}
 use Rattle.placing.specs.Words.{entry, All, Full, rank, Laid, Linked, Seated}
-use Rattle.placing.specs.Priced.{cost_at, Priced, Tight, Unpriced}
+use Rattle.placing.specs.Priced.{cost_at, Priced, Tight}
 use Rattle.placing.proofs.Undercut.{takes_own, tight_seatable, tight_seated, priced_filled, none_assigned, found_assigned, found_few}
 use Rattle.placing.proofs.assigning.cheapest.Goals as goal
 use Rattle.placing.proofs.assigning.cheapest.Goals.{After-lay_words-nodes, In_ok-prices, After-smallest_full-taken}
@@ -42,7 +42,7 @@ pub returns-in_err-prices : goal.returns-in_err-prices
 unfolding rounded_by
 returns-in_err-prices c =
     let t = (goal.at.returns-in_err-prices c).After-lay_words-nodes in
-    let none_placed = subst (λ n. (q : ℕ → ℕ) → All n (nodes t).sets (nodes t).own q → ⊥) (count_is t) c.in_err-prices.ensures.answer in
+    let none_placed = subst (λ n. (q : ℕ → ℕ) → All n (nodes t).sets (nodes t).own q → ⊥) (count_is t) c.in_err-prices.ensures.placed in
     c.from_residual.ensures ∙ ap rounded_by (sym (none_assigned (proper (x t)) (words t) (node_costs t.args.costed.now.costs.now) none_placed))
 
 -- the nodes as they were placed at least cost
@@ -51,7 +51,7 @@ module _ (t : In_ok-prices) where
   begun = (goal.at.In_ok-prices t).After-lay_words-nodes
 
   abbrev s : Seats
-  s = t.assign_all.new.seats
+  s = t.assign_all.new.self
 
   abbrev c : ℕ → ℕ → ℤ
   c = cost_at (I begun) (nodes begun).sets t.args.costed.now.costs.now
@@ -60,10 +60,10 @@ module _ (t : In_ok-prices) where
   linked = subst (λ m. Linked m.sets s.taken s.holders s.reach s.free) (t.in_ok-prices.ensures.same ∙ t.new-seats.ensures.0) s.linked
 
   seated : Seated (nodes begun).own 64 (nodes begun).count s.taken
-  seated = t.in_ok-prices.ensures.answer.0
+  seated = t.in_ok-prices.ensures.placed.0
 
   priced : Priced (nodes begun).count (nodes begun).sets (nodes begun).own c s.taken s.free t.in_ok-prices.prices
-  priced = t.in_ok-prices.ensures.answer.1
+  priced = t.in_ok-prices.ensures.placed.1
 
 pub tight-tight-requires-clause-taken : goal.tight-tight-requires-clause-taken
 tight-tight-requires-clause-taken c = let t = (goal.at.tight-tight-requires-clause-taken c).In_ok-prices in takes_own (nodes (begun t)).few (priced t) (linked t) (seated t)

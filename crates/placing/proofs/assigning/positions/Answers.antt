@@ -1,5 +1,5 @@
 -- `positions` meets its contract: the nodes' positions, and what lies past them.
-use Rattle.std.proofs.Common.{◌≡◌, sym, ap, ◌∙◌, List, ℕ, take, replicate, length, get_or, length-take-le}
+use Rattle.std.proofs.Common.{◌≡◌, ap, ◌∙◌, List, ℕ, take, replicate, length, get_or, length-take-le}
 use Rattle.integers.specs.Places.{tabulate}
 use Rattle.integers.proofs.Places.{length-tabulate}
 use Rattle.placing.specs.Words.{entry, rank}

@@ -1,5 +1,5 @@
 -- `joined` meets its contract: a label below 64 goes into the word, 255 into the flag.
-use Rattle.std.proofs.Common.{arith, sym, subst, ◌^◌}
+use Rattle.std.proofs.Common.{arith, sym, subst}
 use lib.Bits.{bit_or}
 use Rattle.placing.specs.TightRows.{Joins}
 use Rattle.placing.proofs.TightLaws.{joins_label, joins_own}

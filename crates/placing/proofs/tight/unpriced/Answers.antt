@@ -1,7 +1,7 @@
 -- `unpriced` meets its contract: the labels so far.
-use Rattle.std.proofs.Common.{rules, ◌≡◌, ℕ, ◌<◌, ◌^◌, ◌+◌, sym, subst, arith, get_or, pos, to_z-of_z, w64, to_z, of_z, bit_or}
+use Rattle.std.proofs.Common.{rules, ◌≡◌, get_or, pos, to_z-of_z, w64, to_z, of_z}
 use Rattle.integers.proofs.Parts.{linear, parts}
-use Rattle.placing.proofs.TightLaws.{Untagged, untagged_none, untagged_past, untagged_more, untagged_done}
+use Rattle.placing.proofs.TightLaws.{untagged_none, untagged_past, untagged_more}
 use Rattle.placing.proofs.tight.unpriced.Goals as goal
 use Rattle.placing.proofs.tight.unpriced.Goals.{then-price-le0, else-price-le0}
 

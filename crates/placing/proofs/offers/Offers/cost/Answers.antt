@@ -1,5 +1,5 @@
 -- `cost` meets its contract: the cost stands at the label's rank.
-use Rattle.std.proofs.Common.{rules, arith, ◌∙◌, ap, ◌≡◌, get_or, to_z-of_z, w64, pos, ℕ, ◌+◌}
+use Rattle.std.proofs.Common.{rules, arith, ◌∙◌, get_or, to_z-of_z, w64, pos, ◌+◌}
 use Rattle.placing.specs.Words.{entry}
 use Rattle.placing.proofs.Offering.{start_few, rank_few, paid_is}
 use Rattle.placing.proofs.offers.Offers.cost.Goals as goal

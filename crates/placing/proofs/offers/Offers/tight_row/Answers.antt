@@ -1,10 +1,10 @@
 -- `tight_row` meets its contract: each turn is one of `Gathered`.
-use Rattle.std.proofs.Common.{rules, ◌≡◌, ℕ, ◌+◌, ◌<◌, ◌≤◌, ◌^◌, ℤ, ◌+ℤ◌, pos, sym, ap, ap₂, ◌∙◌, subst, arith, get_or, to_z-of_z, w64, to_z, of_z, SFits, List, length, nat_abs}
+use Rattle.std.proofs.Common.{rules, ◌≡◌, ℕ, ◌+◌, ◌<◌, ◌≤◌, ◌^◌, ℤ, ◌+ℤ◌, pos, ap, ap₂, ◌∙◌, subst, arith, get_or, to_z-of_z, w64, to_z, of_z, SFits, List, length, nat_abs}
 use Rattle.integers.proofs.Bits.{answer}
 use Rattle.integers.proofs.Parts.{linear, add, abs, parts}
 use Rattle.instance.specs.Described.{labels_of}
 use Rattle.placing.specs.declared.offers.Offers.{Offers}
-use Rattle.placing.specs.Words.{entry, opens}
+use Rattle.placing.specs.Words.{entry}
 use Rattle.placing.specs.Priced.{price, net}
 use Rattle.placing.specs.Paths.{paid, may}
 use Rattle.placing.specs.TightRows.{Joins}

@@ -1,9 +1,7 @@
 -- `begin` meets its contract: the root's row is the first.
-use Rattle.std.proofs.Common.{rules, ◌≡◌, ℕ, ◌<◌, refl, sym, ap, ◌∙◌, subst, arith, pos, ℤ, get_or-set_same, set}
-use Rattle.placing.specs.declared.paths.Paths.{Paths}
+use Rattle.std.proofs.Common.{rules, ◌≡◌, refl, get_or-set_same, set}
 use Rattle.placing.specs.Words.{entry}
-use Rattle.placing.specs.Paths.{Scanned}
-use Rattle.placing.proofs.Pathing.{root_few, begun_row}
+use Rattle.placing.proofs.Pathing.{begun_row}
 use Rattle.placing.proofs.paths.Paths.begin.Goals as goal
 
 pub returns : goal.returns

@@ -1,13 +1,12 @@
 -- `find_end` meets its contract: the rows of all steps so far were gone through.
-use Rattle.std.proofs.Common.{rules, ◌≡◌, false, ℕ, ◌+◌, ◌-◌, ◌<◌, ◌≤◌, ◌∙◌, ◌≤ℤ◌, refl, sym, ap, subst, arith, ℤ, to_z-of_z, to_z, of_z, w64, List}
+use Rattle.std.proofs.Common.{◌≡◌, false, ◌∙◌, ◌≤ℤ◌, refl, sym, subst, arith, to_z, of_z, w64}
 use Rattle.integers.proofs.Bits.{answer}
 use Rattle.integers.proofs.Parts.{linear, parts}
 use Rattle.integers.proofs.Order.{le_trans}
 use Rattle.integers.proofs.Words.{some_bit}
 use Rattle.placing.specs.declared.paths.Paths.{Paths}
-use Rattle.placing.specs.Paths.{unmet, far_of, Turn, Searched, Onward}
+use Rattle.placing.specs.Paths.{far_of, Turn, Onward}
 use Rattle.placing.proofs.Reaching.{far_small, far_home}
-use Rattle.placing.proofs.Pathing.{root_few}
 use Rattle.placing.proofs.Ending.{ended_home, ended_free, ended_none}
 use Rattle.placing.proofs.paths.Paths.find_end.Goals as goal
 use Rattle.placing.proofs.paths.Paths.find_end.Goals.{At-loop-self, After-way_to-home, After-way_to-home-2, After-has}

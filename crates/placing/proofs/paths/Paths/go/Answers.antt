@@ -1,14 +1,14 @@
 -- `go` meets its contract: the step's tables, and the holder's row.
-use Rattle.std.proofs.Common.{rules, ◌≡◌, true, ℕ, ◌+◌, ◌<◌, ◌≤◌, ◌^◌, ℤ, ◌-ℤ◌, nat_abs, refl, sym, ap, ap₂, ◌∙◌, subst, arith, pos, w64, SFits, to_z, of_z, to_z-of_z, set, bit_xor}
+use Rattle.std.proofs.Common.{rules, ◌≡◌, ℕ, ◌+◌, ◌<◌, ◌≤◌, ◌^◌, ℤ, ◌-ℤ◌, nat_abs, sym, ap, ap₂, ◌∙◌, subst, arith, w64, SFits, to_z, of_z, to_z-of_z, set, bit_xor}
 use mathlib.Core.Path.{transport}
 use Rattle.integers.proofs.Bits.{answer}
-use Rattle.integers.proofs.Parts.{linear, parts, abs}
+use Rattle.integers.proofs.Parts.{linear, abs}
 use Rattle.placing.specs.declared.offers.Offers.{Offers}
 use Rattle.placing.specs.declared.paths.Paths.{Paths}
 use Rattle.placing.specs.declared.seats.Seats.{Seats}
 use Rattle.placing.specs.Words.{entry}
 use Rattle.placing.specs.Priced.{price}
-use Rattle.placing.specs.Paths.{paid, may, far_of, Scanned, Row}
+use Rattle.placing.specs.Paths.{paid, may, far_of, Scanned}
 use Rattle.placing.proofs.Reaching.{far_small}
 use Rattle.placing.proofs.Pathing.{root_few, length_fits, met_here, step_room, holder_few, holder_has, onward_fits, stepped_row}
 use Rattle.placing.proofs.paths.Paths.go.Goals as goal

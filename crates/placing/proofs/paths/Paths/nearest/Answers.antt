@@ -1,11 +1,10 @@
 -- `nearest` meets its contract: the best so far is the nearest but for those of the rest.
-use Rattle.std.proofs.Common.{rules, ◌≡◌, ℕ, ◌<◌, ◌≤◌, ◌^◌, ◌-◌, refl, sym, ap, ◌∙◌, subst, arith, inl, inr, to_z-of_z, w64, to_z, of_z, get_or, pos}
+use Rattle.std.proofs.Common.{rules, ◌<◌, ◌^◌, ◌-◌, refl, sym, subst, arith, inl, inr}
 use lib.Bits.{bit_and, and_le_l}
 use Rattle.integers.proofs.Bits.{answer}
 use Rattle.integers.proofs.Parts.{linear, parts}
 use Rattle.integers.proofs.Order.{le_refl}
 use Rattle.integers.proofs.Words.{lowest, bit_small}
-use Rattle.placing.specs.declared.paths.Paths.{Paths}
 use Rattle.placing.specs.Paths.{far_of}
 use Rattle.placing.proofs.Nearest.{Choosing, choosing_none, choosing_more, choosing_done}
 use Rattle.placing.proofs.Reaching.{far_small}

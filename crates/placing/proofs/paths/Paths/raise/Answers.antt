@@ -1,11 +1,11 @@
 -- `raise` meets its contract: label by label.
-use Rattle.std.proofs.Common.{rules, ◌≡◌, ℕ, ◌+◌, ◌<◌, ◌≤◌, ◌^◌, ℤ, ◌+ℤ◌, ◌-ℤ◌, refl, sym, ap, ap₂, ◌∙◌, subst, arith, pos, w64, SFits, to_z, of_z, to_z-of_z, List, get_or}
+use Rattle.std.proofs.Common.{rules, ◌≡◌, ℕ, ◌+◌, ◌<◌, ℤ, ◌+ℤ◌, ◌-ℤ◌, refl, sym, ap, ap₂, ◌∙◌, arith, pos, w64, SFits, to_z, of_z, to_z-of_z, List, get_or}
 use Rattle.integers.proofs.Bits.{answer}
 use Rattle.integers.proofs.Parts.{linear, abs}
 use Rattle.placing.specs.declared.paths.Paths.{Paths}
 use Rattle.placing.specs.Words.{entry}
 use Rattle.placing.specs.Priced.{price}
-use Rattle.placing.specs.Paths.{far_of, Raising}
+use Rattle.placing.specs.Paths.{far_of}
 use Rattle.placing.proofs.Reaching.{far_small}
 use Rattle.placing.proofs.Raising.{raised_none, price_still, raised_more}
 use Rattle.placing.proofs.paths.Paths.raise.Goals as goal

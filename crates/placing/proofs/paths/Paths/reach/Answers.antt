@@ -1,11 +1,10 @@
 -- `reach` meets its contract: a way that is shorter is kept, by label.
-use Rattle.std.proofs.Common.{rules, ◌≡◌, ℕ, ◌+◌, ◌<◌, ◌≤◌, ℤ, ◌+ℤ◌, ◌≤ℤ◌, pos, refl, sym, ap, ap₂, ◌∙◌, subst, arith, get_or, set, bit_or, ◌^◌, to_z-of_z, to_z, of_z, w64, SFits, List, ⊎_elim}
+use Rattle.std.proofs.Common.{rules, ◌≡◌, ℕ, ◌≤◌, ℤ, ◌+ℤ◌, pos, refl, ap, ap₂, ◌∙◌, arith, get_or, set, bit_or, to_z-of_z, to_z, of_z, w64, SFits, ⊎_elim}
 use Rattle.integers.proofs.Parts.{linear, parts, add, abs}
 use Rattle.integers.proofs.Bits.{answer}
 use Rattle.placing.specs.declared.paths.Paths.{Paths}
 use Rattle.placing.specs.Priced.{price}
-use Rattle.placing.specs.Paths.{Kind, far_of}
-use Rattle.placing.proofs.Reaching.{kept_self, far_small, far_home, price_beyond, reached_not, reached_label, reached_home}
+use Rattle.placing.proofs.Reaching.{far_small, far_home, price_beyond, reached_not, reached_label, reached_home}
 use Rattle.placing.proofs.paths.Paths.reach.Goals as goal
 use Rattle.placing.proofs.paths.Paths.reach.Goals.{Start, After-at-known}
 

@@ -1,13 +1,12 @@
 -- `scan` meets its contract: label by label of the row.
-use Rattle.std.proofs.Common.{rules, ◌≡◌, ℕ, ◌+◌, ◌<◌, ◌≤◌, ℤ, ◌+ℤ◌, pos, refl, sym, ap, ap₂, ◌∙◌, subst, arith, length, get_or, to_z-of_z, to_z, of_z, w64, SFits, List, nat_abs}
-use Rattle.integers.proofs.Parts.{linear, parts, add, abs}
-use Rattle.instance.specs.Described.{labels_of}
+use Rattle.std.proofs.Common.{rules, ◌≡◌, ℕ, ◌+◌, ◌<◌, ◌≤◌, ℤ, ◌+ℤ◌, pos, ap, ap₂, ◌∙◌, subst, arith, length, get_or, to_z-of_z, to_z, of_z, w64, SFits, List}
+use Rattle.integers.proofs.Parts.{linear, add, abs}
 use Rattle.placing.specs.declared.offers.Offers.{Offers}
 use Rattle.placing.specs.Words.{entry}
 use Rattle.placing.specs.Priced.{price}
-use Rattle.placing.specs.Paths.{paid, may, way, Reached, Scanned}
+use Rattle.placing.specs.Paths.{paid, may, Reached}
 use Rattle.placing.proofs.Offering.{paid_within, row_few, row_label, label_there, start_few}
-use Rattle.placing.proofs.Reaching.{Scanning, scanning_none, scanning_more, scanning_all}
+use Rattle.placing.proofs.Reaching.{scanning_none, scanning_more, scanning_all}
 use Rattle.placing.proofs.Slots.{opens_kinds}
 use Rattle.placing.proofs.paths.Paths.scan.Goals as goal
 use Rattle.placing.proofs.paths.Paths.scan.Goals.{In-loop-k, At-loop-k}

@@ -1,9 +1,7 @@
 -- `assign_all` meets its contract: the nodes below the root are placed at least cost.
-use Prim.Native.Nat.{ℕ, ◌+◌, ◌<◌}
+use Prim.Native.Nat.{◌<◌}
 use mathlib.Core.Path.{◌≡◌, refl, sym, ap, ◌∙◌, subst}
-use mathlib.Core.List.{List}
 use native.Mathlib.Omega.{arith}
-use lib.IntN.{ℤ}
 use Rattle.placing.specs.declared.tables.Nodes.{Nodes}
 use Rattle.placing.specs.Words.{Linked, Seated}
 use Rattle.placing.specs.Priced.{Priced}

@@ -1,16 +1,15 @@
 -- `move_back` meets its contract: each turn is a move of `Returning`.
-use Prim.Native.Nat.{ℕ, ◌+◌, ◌≤◌, ◌<◌, ◌^◌}
+use Prim.Native.Nat.{ℕ, ◌≤◌, ◌<◌}
 use mathlib.Core.Path.{◌≡◌, refl, sym, ap, ap₂, ◌∙◌, subst}
 use mathlib.Core.List.{List}
 use native.Mathlib.Omega.{arith}
-use lib.Bits.{bit_xor}
 use lib.IntN.{ℤ}
 use lib.ListN.{set}
 use Rattle.placing.specs.declared.paths.Paths.{Paths}
 use Rattle.placing.specs.declared.tables.Nodes.{Nodes}
 use Rattle.integers.specs.Words.{bit}
 use Rattle.placing.specs.Words.{entry, Linked, Joined}
-use Rattle.placing.specs.Paths.{by_of, Trace, Opening, Settled}
+use Rattle.placing.specs.Paths.{by_of, Trace, Opening}
 use Rattle.placing.proofs.Reaching.{by_small}
 use Rattle.placing.proofs.Returning.{move_node, move_has, move_step, move_small, move_away, move_free, moved, root_has, root_away, moved_done}
 use Rattle.placing.proofs.seats.Seats.move_back.Goals as goal

@@ -1,11 +1,10 @@
 -- `place_root` meets its contract: a search, its prices, and the moves back from where it ended.
 use Prim.Native.Nat.{ℕ, ◌+◌, ◌≤◌, ◌<◌}
-use mathlib.Core.Path.{◌≡◌, refl, sym, ap, ap₂, ◌∙◌, subst, transport}
+use mathlib.Core.Path.{◌≡◌, refl, sym, ap, ◌∙◌, subst, transport}
 use mathlib.Core.Bool.{true}
 use mathlib.Core.List.{List}
 use mathlib.Core.Logic.{inl, inr, ⊎_elim}
 use native.Mathlib.Omega.{arith}
-use lib.IntN.{ℤ}
 use lib.ListN.{set}
 use Rattle.integers.specs.Words.{bit}
 use Rattle.placing.specs.declared.offers.Offers.{Offers}
@@ -67,7 +66,7 @@ module _ (c : After-raise) where
     done {taken} {free} m =
         let e = ap (λ (t : List ℕ). entry t 0) raised.stays.nodes ∙ (searched h).root_node in
         let m' = subst (λ (r : ℕ). Settled (r + 1) (o h).nodes.now.sets (o h).nodes.now.own (paid (o h)) taken free q.prices) e
-            (subst (λ (n : Nodes). Settled (entry q.nodes 0 + 1) n.sets n.own (paid (o h)) taken free q.prices) same m) in
+        (subst (λ (n : Nodes). Settled (entry q.nodes 0 + 1) n.sets n.own (paid (o h)) taken free q.prices) same m) in
         (m'.seated, settled_priced (turn h) (searched h) (ended h) raised m')
 
   free_end : end < 64 → bit (s h).free end ≡ true
