@@ -1,5 +1,6 @@
 //! Compares the proved library with a plain Rust program by the same rules.
 
+mod assign;
 mod bench;
 mod calls;
 mod checker;

@@ -1,4 +1,4 @@
-//! The rules of document 01 with requests 1 to 4 of document 02 in plain Rust: the opponent of the proved
+//! The rules of document 01 with requests 1 to 6 of document 02 in plain Rust: the opponent of the proved
 //! library.
 //!
 //! Every public function is lent slices, reads the sheet once and makes the document's checks in the
@@ -7,6 +7,8 @@
 use std::hint::select_unpredictable;
 use std::iter::zip;
 use std::ops::Range;
+
+use crate::assign::assign;
 
 pub const MAX_NODES: usize = 64;
 pub const MAX_LABELS: usize = 64;
@@ -709,7 +711,8 @@ impl Run<'_> {
             (2, Some(degree)) => fixed!(degree, D => self.edges_to_node::<D>(node, records)),
             (3, Some(_)) => self.node_to_labels(node, records),
             (4, Some(_)) => self.labels_to_nodes(records),
-            (5, _) => self.roundings(records),
+            (5, _) => self.roundings(records, Self::round),
+            (6, _) => self.roundings(records, Self::assign),
             _ => Err(Refusal::Record),
         }
     }
@@ -840,12 +843,17 @@ impl Run<'_> {
         Ok(())
     }
 
-    fn roundings(&mut self, records: &[[u8; RECORD]]) -> Result<(), Refusal> {
+    /// Each answers false when stuck.
+    fn roundings(
+        &mut self,
+        records: &[[u8; RECORD]],
+        rounding: impl Fn(&mut Self) -> bool,
+    ) -> Result<(), Refusal> {
         for record in records {
             if record[1..] != [0; RECORD - 1] {
                 return Err(Refusal::Record);
             }
-            self.outcome.stuck += u64::from(!self.round());
+            self.outcome.stuck += u64::from(!rounding(self));
             self.outcome.done += 1;
         }
         Ok(())
@@ -878,13 +886,29 @@ impl Run<'_> {
                 edge += 1;
             }
         }
-        let labelling = &labelling[..sheet.degrees.len()];
-        let cost = sheet.cost(labelling);
+        self.keep(&labelling[..sheet.degrees.len()]);
+        true
+    }
+
+    /// False when stuck: there is no matching.
+    fn assign(&mut self) -> bool {
+        let Sheet { degrees, labels, .. } = *self.sheet;
+        let mut labelling = [0; MAX_NODES];
+        let labelling = &mut labelling[..degrees.len()];
+        let placed = assign(degrees, labels, self.nodes, labelling);
+        if placed {
+            self.keep(labelling);
+        }
+        placed
+    }
+
+    /// Keeps the matching if none is kept or if it is cheaper on the sheet.
+    fn keep(&mut self, matching: &[u8]) {
+        let cost = self.sheet.cost(matching);
         if self.kept.is_none_or(|kept| cost < kept) {
-            self.incumbent.copy_from_slice(labelling);
+            self.incumbent.copy_from_slice(matching);
             self.kept = Some(cost);
         }
-        true
     }
 }
 

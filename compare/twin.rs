@@ -1,4 +1,4 @@
-//! The rules of document 01 with requests 1 to 4 of document 02 in plain Rust: the opponent of the proved
+//! The rules of document 01 with requests 1 to 6 of document 02 in plain Rust: the opponent of the proved
 //! library.
 //!
 //! Every public function is lent slices, reads the sheet once and makes the document's checks in the
@@ -6,6 +6,8 @@
 
 use std::iter::zip;
 use std::ops::Range;
+
+use crate::assign::assign;
 
 pub const MAX_NODES: usize = 64;
 pub const MAX_LABELS: usize = 64;
@@ -597,9 +599,10 @@ impl Run<'_> {
 
     /// Answers whether a rounding got stuck.
     fn record(&mut self, &[kind, node, low, high, share]: &[u8; RECORD]) -> Result<bool, Refusal> {
-        if kind == 5 {
+        if kind == 5 || kind == 6 {
             return match [node, low, high, share] {
-                [0, 0, 0, 0] => Ok(!self.round()),
+                [0, 0, 0, 0] if kind == 5 => Ok(!self.round()),
+                [0, 0, 0, 0] => Ok(!self.assign()),
                 _ => Err(Refusal::Record),
             };
         }
@@ -748,13 +751,29 @@ impl Run<'_> {
                 edge += 1;
             }
         }
-        let labelling = &labelling[..sheet.degrees.len()];
-        let cost = sheet.cost(labelling);
+        self.keep(&labelling[..sheet.degrees.len()]);
+        true
+    }
+
+    /// False when stuck: there is no matching.
+    fn assign(&mut self) -> bool {
+        let Sheet { degrees, labels, .. } = *self.sheet;
+        let mut labelling = [0; MAX_NODES];
+        let labelling = &mut labelling[..degrees.len()];
+        let placed = assign(degrees, labels, self.nodes, labelling);
+        if placed {
+            self.keep(labelling);
+        }
+        placed
+    }
+
+    /// Keeps the matching if none is kept or if it is cheaper on the sheet.
+    fn keep(&mut self, matching: &[u8]) {
+        let cost = self.sheet.cost(matching);
         if self.kept.is_none_or(|kept| cost < kept) {
-            self.incumbent.copy_from_slice(labelling);
+            self.incumbent.copy_from_slice(matching);
             self.kept = Some(cost);
         }
-        true
     }
 }
 

@@ -17,7 +17,7 @@ const OPS: [(u8, &str); 9] = [
     (21, "poke"),
 ];
 /// How many requests are in the rules of both sides, and so in those of a file they can be held to.
-const LEVEL: u32 = 4;
+const LEVEL: u32 = 6;
 const MODULUS: i128 = 4_294_967_291;
 const PRIOR_FILL: u8 = 0xA5;
 
