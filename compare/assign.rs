@@ -6,6 +6,7 @@
 //! label that is left has a price above 0, the sum is the least. The others with this sum are just those in
 //! which each node takes something at the same key as here and no label with a price above 0 is left.
 
+use std::hint::select_unpredictable;
 use std::iter::zip;
 use std::ops::{Add, AddAssign, Sub};
 
@@ -53,8 +54,9 @@ fn solve<K: Key>(degrees: &[u8], labels: &[u8], costs: &[i64], labelling: &mut [
 #[derive(Debug, PartialEq, Eq)]
 struct Wide;
 
-/// A label's number takes the low bits of a key, so that the least of several says where it stands.
-const LABEL_BITS: u32 = MAX_LABELS.trailing_zeros();
+/// Which of the groups of LANES labels a key belongs to stands in its low bits, so that the least of a lane
+/// says where it was.
+const GROUP_BITS: u32 = (MAX_LABELS / LANES).trailing_zeros();
 
 /// A number of one of two widths. Of 32 parts that an unsigned one has, all that is added up stays below 32 and
 /// all that is told apart stays apart: costs, as distances from the node's first, lie within 2 on either side,
@@ -73,9 +75,10 @@ trait Key: Copy + Ord + Add<Output = Self> + Sub<Output = Self> + AddAssign {
     /// How many bits the distance of two costs of a node may have.
     const COST_BITS: u32;
     fn new(distance: i64, label: u8) -> Self;
-    fn label(self) -> usize;
-    fn without_label(self) -> Self;
+    fn label(self, lane: usize) -> usize;
+    fn without_group(self) -> Self;
     fn least_by_bits(self, other: Self) -> Self;
+    fn less_by_bits(self, other: Self) -> bool;
 }
 
 macro_rules! key {
@@ -88,22 +91,26 @@ macro_rules! key {
             const ABSENT: Self = 20 << ($signed::BITS - 6);
             const PASSED: Self = $signed::MIN;
             const UNREACHED: Self = $signed::MAX;
-            const COST_BITS: u32 = $signed::BITS - 5 - LABEL_BITS;
+            const COST_BITS: u32 = $signed::BITS - 5 - GROUP_BITS;
 
             fn new(distance: i64, label: u8) -> Self {
-                (distance as $signed) << LABEL_BITS | $signed::from(label)
+                (distance as $signed) << GROUP_BITS | $signed::from(label / LANES as u8)
             }
 
-            fn label(self) -> usize {
-                (self & (MAX_LABELS as $signed - 1)) as usize
+            fn label(self, lane: usize) -> usize {
+                (self & ((1 << GROUP_BITS) - 1)) as usize * LANES + lane
             }
 
-            fn without_label(self) -> Self {
-                self & -(MAX_LABELS as $signed)
+            fn without_group(self) -> Self {
+                self & -(1 << GROUP_BITS)
             }
 
             fn least_by_bits(self, other: Self) -> Self {
                 (self as $unsigned).min(other as $unsigned) as $signed
+            }
+
+            fn less_by_bits(self, other: Self) -> bool {
+                (self as $unsigned) < other as $unsigned
             }
         }
     };
@@ -111,6 +118,19 @@ macro_rules! key {
 
 key!(i32, u32);
 key!(i64, u64);
+
+/// A key and its lane.
+trait InLane<K>: Sized {
+    /// The lower of two, without a branch.
+    fn lower(self, other: Self, less: impl Fn(K, K) -> bool) -> Self;
+}
+
+impl<K: Key> InLane<K> for (K, usize) {
+    fn lower(self, other: Self, less: impl Fn(K, K) -> bool) -> Self {
+        let is_other = less(other.0, self.0);
+        (select_unpredictable(is_other, other.0, self.0), select_unpredictable(is_other, other.1, self.1))
+    }
+}
 
 /// Nodes and the labels that they take at prices.
 struct Market<K> {
@@ -229,15 +249,14 @@ impl<K: Key> Market<K> {
     /// label bids in turn. Answers who is left with nothing, if anyone.
     fn bid(&mut self, mut node: usize, bids: &mut u32) -> Option<usize> {
         loop {
-            let (first, second) = self.two_least(node);
+            let ((first, label), second) = self.two_least(node);
             let vanished = self.vanished[node];
             if vanished < first {
                 self.take_at(node, VANISHES, vanished);
                 return None;
             }
-            let second = second.min(vanished).without_label();
-            let label = first.label();
-            let key = first.without_label();
+            let second = second.min(vanished).without_group();
+            let key = first.without_group();
             let free = self.is_free(label);
             if !free && key == second {
                 return self.bid_evenly(node, key);
@@ -272,8 +291,8 @@ impl<K: Key> Market<K> {
         None
     }
 
-    /// The node's two least keys at labels.
-    fn two_least(&self, node: usize) -> (K, K) {
+    /// The node's least key at a label, with the label, and its second.
+    fn two_least(&self, node: usize) -> ((K, usize), K) {
         let mut first = [K::UNREACHED; LANES];
         let mut second = [K::UNREACHED; LANES];
         let (rows, _) = self.rows[node].as_chunks::<LANES>();
@@ -285,9 +304,13 @@ impl<K: Key> Market<K> {
                 first[lane] = first[lane].min(key);
             }
         }
-        let merge = |(a, b): (K, K), (c, d): (K, K)| (a.min(c), b.min(d).min(a.max(c)));
-        let lane = |lane: usize| (first[lane], second[lane]);
-        merge(merge(lane(0), lane(1)), merge(lane(2), lane(3)))
+        let both = |one: usize, other: usize| {
+            let lane = (first[one], one).lower((first[other], other), |a, b| a < b);
+            (lane, second[one].min(second[other]).min(first[one].max(first[other])))
+        };
+        let (low, high) = (both(0, 1), both(2, 3));
+        let (key, lane) = low.0.lower(high.0, |a, b| a < b);
+        ((key, key.label(lane)), low.1.min(high.1).min(low.0 .0.max(high.0 .0)))
     }
 
     /// The labels at which the node has this key.
@@ -298,7 +321,7 @@ impl<K: Key> Market<K> {
     /// Gives the node a label by a chain of the least cost: each node of the chain takes the label of the next
     /// one, and the last one that is free, or its 255. False if there is none.
     fn search(&mut self, start: usize) -> Result<bool, Wide> {
-        let own = self.two_least(start).0.min(self.vanished[start]).without_label();
+        let own = self.two_least(start).0 .0.min(self.vanished[start]).without_group();
         let mut search = Search::new();
         let Some((step, label, distance)) = self.come_to_end(&mut search, start, own)? else {
             return Ok(false);
@@ -322,7 +345,8 @@ impl<K: Key> Market<K> {
         let mut before = K::ZERO;
         let mut alike = 0;
         loop {
-            let mut least = search.look_at(node, base, &self.rows[node], &self.prices, self.vanished[node]);
+            let (least, mut label) =
+                search.look_at(node, base, &self.rows[node], &self.prices, self.vanished[node]);
             if search.exit.min(least) >= K::NOT_THERE {
                 return Ok(None);
             }
@@ -332,31 +356,29 @@ impl<K: Key> Market<K> {
             if least > K::MOST_DISTANCE {
                 return Err(Wide);
             }
-            let distance = least.without_label();
+            let distance = least.without_group();
             alike = if distance == before { alike + 1 } else { 0 };
             // Where many are at one distance, rather one that is free.
-            if alike > 1 && !self.is_free(least.label()) {
+            if alike > 1 && !self.is_free(label) {
                 let free = search.labels_at(distance) & self.free;
-                if free != 0 {
-                    least = search.reached[number(free)];
-                }
+                label = if free != 0 { number(free) } else { label };
             }
-            let label = least.label();
             if self.is_free(label) {
-                return Ok(Some((self.step_to(search, least, search.count), label, distance)));
+                return Ok(Some((self.step_to(search, label, distance, search.count), label, distance)));
             }
-            search.pass(least);
+            search.pass(label, distance);
             node = self.holder(label);
             base = distance - self.keys[node];
             before = distance;
         }
     }
 
-    /// The step, of those before this one, that came to a label with this key.
-    fn step_to(&self, search: &Search<K>, key: K, before: usize) -> usize {
-        let label = key.label();
-        let own = key - self.prices[label];
-        (0..before).find(|&step| self.rows[search.node(step)][label] + search.bases[step] == own).unwrap_or(0)
+    /// The step, of those before this one, that came to a label at this distance.
+    fn step_to(&self, search: &Search<K>, label: usize, distance: K, before: usize) -> usize {
+        let own = distance - self.prices[label];
+        let comes =
+            |&step: &usize| (self.rows[search.node(step)][label] + search.bases[step]).without_group() == own;
+        (0..before).find(comes).unwrap_or(0)
     }
 
     /// Moves the chain that ends where this step's node takes this label.
@@ -366,9 +388,8 @@ impl<K: Key> Market<K> {
             if step == 0 {
                 return;
             }
-            let key = search.keys[step];
-            label = key.label();
-            step = self.step_to(search, key, step);
+            label = search.label(step);
+            step = self.step_to(search, label, search.distances[step], step);
         }
     }
 
@@ -376,9 +397,8 @@ impl<K: Key> Market<K> {
     fn raise(&mut self, search: &Search<K>, distance: K) -> Result<(), Wide> {
         let mut most = K::ZERO;
         for step in 1..search.count {
-            let key = search.keys[step];
-            let rise = distance - key.without_label();
-            let price = &mut self.prices[key.label()];
+            let rise = distance - search.distances[step];
+            let price = &mut self.prices[search.label(step)];
             *price += rise;
             most = most.max(*price);
             self.keys[search.node(step)] += rise;
@@ -396,9 +416,11 @@ struct Search<K> {
     reached: ByLabel<K>,
     count: usize,
     nodes: ByNode<u8>,
-    /// What a step adds to its node's keys, and the key at which that node's label was reached.
+    /// The label that the node holds, and at which distance it was reached; of the first step none.
+    labels: ByNode<u8>,
+    distances: ByNode<K>,
+    /// What a step adds to its node's keys.
     bases: ByNode<K>,
-    keys: ByNode<K>,
     /// The least key at a 255, and its step.
     exit: K,
     exit_step: usize,
@@ -410,8 +432,9 @@ impl<K: Key> Search<K> {
             reached: [K::UNREACHED; MAX_LABELS],
             count: 0,
             nodes: [0; MAX_NODES],
+            labels: [0; MAX_NODES],
+            distances: [K::ZERO; MAX_NODES],
             bases: [K::ZERO; MAX_NODES],
-            keys: [K::ZERO; MAX_NODES],
             exit: K::UNREACHED,
             exit_step: 0,
         }
@@ -421,14 +444,26 @@ impl<K: Key> Search<K> {
         usize::from(self.nodes[step]) % MAX_NODES
     }
 
-    /// The label is not reached again; its holder makes the next step.
-    fn pass(&mut self, key: K) {
-        self.reached[key.label()] = K::PASSED;
-        self.keys[self.count % MAX_NODES] = key;
+    fn label(&self, step: usize) -> usize {
+        usize::from(self.labels[step]) % MAX_LABELS
     }
 
-    /// Answers the least key of all labels not passed.
-    fn look_at(&mut self, node: usize, base: K, row: &ByLabel<K>, prices: &ByLabel<K>, vanished: K) -> K {
+    /// The label is not reached again; its holder makes the next step.
+    fn pass(&mut self, label: usize, distance: K) {
+        self.reached[label] = K::PASSED;
+        self.labels[self.count % MAX_NODES] = label as u8;
+        self.distances[self.count % MAX_NODES] = distance;
+    }
+
+    /// Answers the least key of all labels not passed, and its label.
+    fn look_at(
+        &mut self,
+        node: usize,
+        base: K,
+        row: &ByLabel<K>,
+        prices: &ByLabel<K>,
+        vanished: K,
+    ) -> (K, usize) {
         let step = self.count % MAX_NODES;
         self.count = step + 1;
         self.nodes[step] = node as u8;
@@ -448,7 +483,11 @@ impl<K: Key> Search<K> {
                 least[lane] = least[lane].least_by_bits(key);
             }
         }
-        least.into_iter().fold(K::UNREACHED, K::least_by_bits)
+        let lane = |lane: usize| (least[lane], lane);
+        let low = lane(0).lower(lane(1), K::less_by_bits);
+        let high = lane(2).lower(lane(3), K::less_by_bits);
+        let (key, lane) = low.lower(high, K::less_by_bits);
+        (key, key.label(lane))
     }
 
     /// Not inlined, so that the loop around it keeps its registers.
@@ -466,7 +505,7 @@ fn labels_at<K: Key>(costs: &ByLabel<K>, prices: &ByLabel<K>, key: K) -> u64 {
     let mut halves = [0; 2];
     for (half, (costs, prices)) in zip(&mut halves, zip(costs, prices)) {
         for (lane, bit) in HALF_BITS.iter().enumerate() {
-            let same = (costs[lane] + prices[lane]).without_label() == key;
+            let same = (costs[lane] + prices[lane]).without_group() == key;
             *half |= if same { *bit } else { 0 };
         }
     }
