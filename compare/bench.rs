@@ -7,9 +7,11 @@ use crate::calls::{Buffers, Calls, Stretches, Twin, COUNTS, READING, SPAN, VALUE
 use crate::checker;
 use crate::exports::Proved;
 use crate::sheets::{self, Parts};
-use crate::twin::{Refusal, MAX_LENGTH, MAX_NODES, RECORD};
+use crate::twin::{Refusal, MAX_LENGTH, MAX_NODES, RECORD, UNSET};
 
 pub const SEED: u64 = 2022;
+/// A list of one record of kind 6.
+pub const ASSIGNMENT: [u8; RECORD] = [6, 0, 0, 0, 0];
 const SWEEPS: usize = 20;
 /// Repetitions of a short call in one sample.
 const REPEAT: u32 = 300;
@@ -24,12 +26,22 @@ pub struct Input {
 
 /// Nanoseconds of one call, by item.
 type Sample<const K: usize> = [f64; K];
-const ITEMS: [&str; 7] =
-    ["read", "open", "report", "show an edge", "write two sweeps", "place", "run 20 + 20 sweeps"];
+const ITEMS: [&str; 8] = [
+    "read",
+    "open",
+    "report",
+    "show an edge",
+    "write two sweeps",
+    "place",
+    "run a kind 6",
+    "run 20 + 20 sweeps",
+];
+/// What was placed, and the buffers after a run of kind 6.
+type Placed = (Vec<u8>, Buffers);
 /// Beside the second Rust program.
 const RUNNING: [&str; 3] = ["read", "report", "run 20 + 20 sweeps"];
-/// Of a sheet that is there to place on.
-const PLACING: [&str; 2] = ["read", "place"];
+/// Of a sheet that is there to place on or to find the cheapest matching of.
+const PLACING: [&str; 3] = ["read", "place", "run a kind 6"];
 
 /// Answers whether both sides ended in the same buffers, but for sets of nodes that each may name.
 pub fn bench(runs: usize) -> bool {
@@ -42,7 +54,7 @@ pub fn bench(runs: usize) -> bool {
         let sides = (|| sample_running::<Proved>(&input), || sample_running::<Stretches>(&input));
         alike &= in_turns(&title, RUNNING, runs, sides.0, sides.1);
     }
-    for (name, parts) in sheets::placing_sheets(SEED) {
+    for (name, parts) in sheets::placing_sheets(SEED).into_iter().chain(sheets::assigning_sheets(SEED)) {
         let sheet = parts.bytes();
         let title = format!("{name}: {} bytes", sheet.len());
         let sides = (|| sample_placing::<Proved>(&sheet), || sample_placing::<Twin>(&sheet));
@@ -111,10 +123,10 @@ pub fn prepare(parts: &Parts) -> Input {
     Input { sheet, opened, forward, backward }
 }
 
-/// One sample of every item, the buffers after the sweeps, and what was placed.
-fn sample<S: Calls>(input: &Input) -> (Sample<{ ITEMS.len() }>, (Buffers, Vec<u8>)) {
+/// One sample of every item, the buffers after the sweeps, and what was placed and kept.
+fn sample<S: Calls>(input: &Input) -> (Sample<{ ITEMS.len() }>, (Buffers, Placed)) {
     let sheet = input.sheet.as_slice();
-    let ([read, place], placed) = sample_placing::<S>(sheet);
+    let ([read, place, assign], placed) = sample_placing::<S>(sheet);
     let mut lent = input.opened.clone();
     let open = time(REPEAT, || black_box(S::open(black_box(sheet), black_box(&mut lent))));
     let mut values = [0; VALUES];
@@ -131,7 +143,7 @@ fn sample<S: Calls>(input: &Input) -> (Sample<{ ITEMS.len() }>, (Buffers, Vec<u8
     let mut lent = input.opened.clone();
     let sweeps = time(1, || run_sweeps::<S>(input, &mut lent));
     assert_eq!(S::report(sheet, &lent, &mut values), 0);
-    ([read, open, report, edge, write, place, sweeps], (lent, placed))
+    ([read, open, report, edge, write, place, assign, sweeps], (lent, placed))
 }
 
 /// One sample, and the buffers after the sweeps.
@@ -148,8 +160,8 @@ fn sample_running<S: Calls>(input: &Input) -> (Sample<{ RUNNING.len() }>, Buffer
     ([read, report, sweeps], lent)
 }
 
-/// One sample, and what was placed: nothing if there is no matching.
-fn sample_placing<S: Calls>(sheet: &[u8]) -> (Sample<{ PLACING.len() }>, Vec<u8>) {
+/// One sample, and what was placed, nothing if there is no matching.
+fn sample_placing<S: Calls>(sheet: &[u8]) -> (Sample<{ PLACING.len() }>, Placed) {
     let mut answer = [0; READING];
     let read = time(REPEAT, || black_box(S::read(black_box(sheet), black_box(&mut answer))));
     let mut out = vec![0; MAX_NODES];
@@ -161,7 +173,21 @@ fn sample_placing<S: Calls>(sheet: &[u8]) -> (Sample<{ PLACING.len() }>, Vec<u8>
     } else {
         assert_eq!(refusal, 0);
     }
-    ([read, place], out)
+    let (assign, kept) = sample_assigning::<S>(sheet);
+    ([read, place, assign], (out, kept))
+}
+
+/// Nanoseconds of a run of kind 6 on opened buffers, and what it keeps of them.
+fn sample_assigning<S: Calls>(sheet: &[u8]) -> (f64, Buffers) {
+    let mut lent = Buffers::fitting(sheet);
+    assert_eq!(S::open(sheet, &mut lent), 0);
+    let mut counts = [0; COUNTS];
+    let assign = time(REPEAT, || {
+        lent.incumbent.fill(UNSET);
+        black_box(S::run(black_box(sheet), black_box(&ASSIGNMENT), black_box(&mut lent), &mut counts))
+    });
+    assert_eq!(counts, [1, u64::from(lent.incumbent.contains(&UNSET))]);
+    (assign, lent)
 }
 
 fn run_sweeps<S: Calls>(input: &Input, lent: &mut Buffers) {

@@ -2,7 +2,7 @@
 
 use std::hint::black_box;
 
-use crate::bench::{prepare, Input, SEED};
+use crate::bench::{prepare, Input, ASSIGNMENT, SEED};
 use crate::calls::{Calls, COUNTS, READING, VALUES};
 use crate::sheets;
 use crate::twin::RECORD;
@@ -31,12 +31,13 @@ pub fn count<S: Calls>(sheet: usize, item: &str, times: usize) -> Option<bool> {
     Some(true)
 }
 
-/// The records of a forward and a backward sweep: all, those of one kind, or none.
+/// The records of a forward and a backward sweep: all, those of one kind, or none. Neither has one of kind 6.
 fn list_of(input: &Input, item: &str) -> Option<Vec<u8>> {
     let both = [input.forward.as_slice(), input.backward.as_slice()].concat();
     let kind = match item {
         "copy" | "read" | "open" | "report" | "none" => return Some(Vec::new()),
         "sweeps" => return Some(both),
+        "6" => return Some(ASSIGNMENT.to_vec()),
         _ => item.parse::<u8>().ok().filter(|kind| (1..=5).contains(kind))?,
     };
     Some(both.chunks_exact(RECORD).filter(|record| record[0] == kind).flatten().copied().collect())

@@ -227,7 +227,7 @@ impl Shape {
 
 /// A valid sheet of some shape.
 pub fn valid(rng: &mut Rng) -> Parts {
-    match rng.below(19) {
+    match rng.below(22) {
         0 => Shape { nodes: 0, label_limit: label_limit(rng, 0), ..FULL }.draw_sharing(rng),
         1..=4 => {
             let label_limit = 1 + rng.below(9);
@@ -254,8 +254,38 @@ pub fn valid(rng: &mut Rng) -> Parts {
         .draw_sharing(rng),
         12 => Shape { most_degree: 3, ..FULL }.draw_sharing(rng),
         13..=14 => few_labels(rng),
-        _ => crowded(rng),
+        15..=18 => crowded(rng),
+        _ => contested(rng),
     }
+}
+
+/// Few nodes that want the same labels, about as many as there are nodes, so that a label which one takes is
+/// missed by another. Prices of few values make many matchings equal; where the labels fall as the nodes rise
+/// the first of these is far from where each node's first label leads. With many 255s these compete too.
+fn contested(rng: &mut Rng) -> Parts {
+    let nodes = rng.between(2, 7) as usize;
+    let room = (nodes + rng.pick(&[0, 0, 1, 2])).min(9);
+    let least = rng.pick(&[0, MAX_LABELS - room]);
+    let degree = rng.pick(&[2, 2, 3, 3, 4, 9]).min(room);
+    let falls = rng.percent(50);
+    let vanishing = rng.pick(&[0, 0, 20, 100]);
+    let mut parts = Parts { label_limit: least + room, ..Parts::default() };
+    for node in 0..nodes {
+        let first = if falls { (nodes - 1 - node).min(room - degree) } else { rng.below(room - degree + 1) };
+        let mut labels: Vec<u8> = (first..first + degree).map(|label| (least + label) as u8).collect();
+        if rng.percent(25) {
+            labels.swap_remove(rng.below(labels.len()));
+        }
+        labels.extend(rng.percent(vanishing).then_some(VANISHED));
+        parts.add_node(labels);
+    }
+    let mut pairs = parts.usable(all_pairs(nodes));
+    rng.shuffle(&mut pairs);
+    pairs.truncate(rng.below(5));
+    parts.set_edges(pairs, MAX_EDGE_CELLS);
+    let prices = rng.pick(&[Prices::Units, Prices::Units, Prices::Zero, Prices::Small, Prices::Wide]);
+    parts.set_prices(rng, prices);
+    parts
 }
 
 /// Nodes of degree 1 to 3 that have hardly a label to choose from.
@@ -308,7 +338,8 @@ fn crowded(rng: &mut Rng) -> Parts {
     rng.shuffle(&mut pairs);
     pairs.truncate(rng.below(12));
     parts.set_edges(pairs, MAX_EDGE_CELLS);
-    parts.set_prices(rng, Prices::Small);
+    let prices = rng.pick(&[Prices::Small, Prices::Small, Prices::Units, Prices::Zero, Prices::Wide]);
+    parts.set_prices(rng, prices);
     parts
 }
 
@@ -417,6 +448,22 @@ pub fn placing_sheets(seed: u64) -> [(&'static str, Parts); 2] {
         ("64 nodes of degree 16, no matching", full_size(rng, crowded, 16)),
         ("64 nodes of degree 16, labels that fall", full_size(rng, falling, 16)),
     ]
+}
+
+/// Two sheets for roundings by assignment: the 64 nodes want the 64 labels, every one of which is needed. Each
+/// has that of its own number, so that there is a matching. Prices of few values leave many equal ones.
+pub fn assigning_sheets(seed: u64) -> [(&'static str, Parts); 2] {
+    let rng = &mut Rng(seed);
+    let kinds = [
+        ("64 nodes of degree 16, no edges", Prices::Wide),
+        ("64 nodes of degree 16, no edges, prices 0 to 3", Prices::Units),
+    ];
+    kinds.map(|(name, prices)| {
+        let nodes = (0..MAX_NODES).map(|node| labels_with(rng, node, 0..MAX_LABELS, MAX_DEGREE)).collect();
+        let mut parts = full_size(rng, nodes, 0);
+        parts.set_prices(rng, prices);
+        (name, parts)
+    })
 }
 
 /// So many of the labels, one of which is given.
