@@ -1,5 +1,5 @@
-//! What request 4 says of a placing and of a set of nodes that cannot be placed, word by word: slow, and
-//! written to be seen to be right. The sheet has to be readable.
+//! What request 4 says of a placing and of a set of nodes that cannot be placed, and request 6 of the matching
+//! with the least sum, word by word: slow, and written to be seen to be right. The sheet has to be readable.
 
 use crate::twin::{TRAILER, VANISHED};
 
@@ -83,18 +83,24 @@ pub fn is_obstruction(sheet: &[u8], bytes: &[u8]) -> bool {
 /// The first matching of all labellings in order, positions being compared from node 0 on; none if none of
 /// them is one. Not answered if there are too many.
 pub fn smallest_matching(nodes: &[&[u8]]) -> Option<Option<Vec<u8>>> {
+    Some(labellings(nodes)?.find(|positions| is_matching(nodes, positions)))
+}
+
+/// All matchings, positions being compared from node 0 on. Not answered if there are too many labellings.
+pub fn matchings(nodes: &[&[u8]]) -> Option<Vec<Vec<u8>>> {
+    Some(labellings(nodes)?.filter(|positions| is_matching(nodes, positions)).collect())
+}
+
+/// All labellings in order, unless there are too many.
+fn labellings<'a>(nodes: &'a [&[u8]]) -> Option<impl Iterator<Item = Vec<u8>> + 'a> {
     let count = nodes.iter().try_fold(1_usize, |count, own| count.checked_mul(own.len()))?;
-    if count > MOST_LABELLINGS {
-        return None;
-    }
-    let mut positions = vec![0; nodes.len()];
-    for _ in 0..count {
-        if is_matching(nodes, &positions) {
-            return Some(Some(positions));
-        }
-        next_labelling(nodes, &mut positions);
-    }
-    Some(None)
+    let mut next = vec![0; nodes.len()];
+    let labellings = (0..count).map(move |_| {
+        let positions = next.clone();
+        next_labelling(nodes, &mut next);
+        positions
+    });
+    (count <= MOST_LABELLINGS).then_some(labellings)
 }
 
 /// The last node's position rises first.
@@ -106,4 +112,46 @@ fn next_labelling(nodes: &[&[u8]], positions: &mut [u8]) {
         }
         *position = 0;
     }
+}
+
+/// The sum of the node costs at these positions.
+pub fn sum_of_nodes(nodes: &[&[u8]], costs: &[i64], positions: &[u8]) -> i64 {
+    let mut start = 0;
+    let mut sum = 0;
+    for (own, &position) in nodes.iter().zip(positions) {
+        sum += costs[start + usize::from(position)];
+        start += own.len();
+    }
+    sum
+}
+
+/// Of all these matchings, which are in order, the one with the least sum of node costs; the first of equals.
+pub fn cheapest<'a>(matchings: &'a [Vec<u8>], nodes: &[&[u8]], costs: &[i64]) -> Option<&'a Vec<u8>> {
+    // Of equal ones this answers the first.
+    matchings.iter().min_by_key(|positions| sum_of_nodes(nodes, costs, positions))
+}
+
+/// What a labelling costs on the sheet: its node prices, and of each edge the price in the row of its lower
+/// node's position and the column of its higher node's.
+pub fn cost_on_sheet(sheet: &[u8], positions: &[u8]) -> i64 {
+    let nodes = labels_by_node(sheet);
+    let node_cells = nodes.concat().len();
+    let trailer = &sheet[sheet.len() - TRAILER..];
+    let edges = usize::from(u16::from_le_bytes([trailer[2], trailer[3]]));
+    let (node_prices, rest) = sheet[nodes.len() + node_cells..].split_at(4 * node_cells);
+    let (ends, edge_prices) = rest.split_at(2 * edges);
+    let mut cost = sum_of_nodes(&nodes, &prices(node_prices), positions);
+    let edge_prices = prices(&edge_prices[..edge_prices.len() - TRAILER]);
+    let mut start = 0;
+    for ends in ends.chunks_exact(2) {
+        let [u, v] = [0, 1].map(|end| usize::from(ends[end]));
+        let (rows, columns) = (nodes[u].len(), nodes[v].len());
+        cost += edge_prices[start + usize::from(positions[u]) * columns + usize::from(positions[v])];
+        start += rows * columns;
+    }
+    cost
+}
+
+fn prices(bytes: &[u8]) -> Vec<i64> {
+    bytes.as_chunks::<4>().0.iter().map(|&price| i64::from(i32::from_le_bytes(price))).collect()
 }

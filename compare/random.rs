@@ -1,7 +1,9 @@
 //! Random comparison of both sides: every answer and every buffer after every call.
 
+use std::cell::OnceCell;
 use std::cmp::Ordering;
 
+use crate::bench::ASSIGNMENT;
 use crate::calls::{Buffers, Calls, Twin, COUNTS, READING, SPAN, VALUES};
 use crate::checker;
 use crate::exports::Proved;
@@ -13,7 +15,7 @@ const REFUSALS: usize = 17;
 const PLACED: u8 = 0;
 const NOT_PLACED: u8 = Refusal::NoMatching as u8;
 
-/// What shows the rules of the 255, of the unusable cells and of placing, by place in SEEN.
+/// What shows the rules of the 255, of the unusable cells, of placing and of kind 6, by place in SEEN.
 #[derive(Clone, Copy)]
 enum Seen {
     Sheet,
@@ -83,10 +85,30 @@ enum Seen {
     NamedTried,
     NamedOverKept,
     NamedApart,
+    AssignRefused,
+    Assigned,
+    AssignedCheaper,
+    AssignedUnstuck,
+    AssignedVanished,
+    AssignedBesideVanished,
+    AssignedSaved,
+    AssignedAtLimit,
+    AssignedFirst,
+    AssignedBetter,
+    AssignedDearer,
+    AssignedEven,
+    AssignedStuck,
+    AssignedStuckVanished,
+    AssignedTried,
+    AssignedTie,
+    AssignedSwap,
+    AssignedChain,
+    AssignedMoved,
+    AssignedStuckTried,
 }
 
-/// What has to come up: without them a comparison says nothing of placing.
-const NEEDED: [Seen; 9] = [
+/// What has to come up: without them a comparison says nothing of placing or of kind 6.
+const NEEDED: [Seen; 22] = [
     Seen::PlaceUnlent,
     Seen::PlacedElsewhere,
     Seen::PlacedByChain,
@@ -96,9 +118,22 @@ const NEEDED: [Seen; 9] = [
     Seen::NamedThree,
     Seen::NamedMore,
     Seen::NamedTried,
+    Seen::AssignRefused,
+    Seen::AssignedCheaper,
+    Seen::AssignedUnstuck,
+    Seen::AssignedBesideVanished,
+    Seen::AssignedSaved,
+    Seen::AssignedAtLimit,
+    Seen::AssignedBetter,
+    Seen::AssignedDearer,
+    Seen::AssignedEven,
+    Seen::AssignedSwap,
+    Seen::AssignedChain,
+    Seen::AssignedMoved,
+    Seen::AssignedStuckTried,
 ];
 
-const SEEN: [&str; Seen::NamedApart as usize + 1] = [
+const SEEN: [&str; Seen::AssignedStuckTried as usize + 1] = [
     "readable sheets with a 255",
     "of these with one at every node",
     "of these with one alone at some node",
@@ -166,6 +201,26 @@ const SEEN: [&str; Seen::NamedApart as usize + 1] = [
     "sets named after a look at all labellings",
     "sets named, written over the kept matching",
     "sets named by one side where the other named another",
+    "runs refused 12 at kind 6 with a byte that is not 0",
+    "records looked at, of kind 6, that find a matching",
+    "of these with a lower sum than that of kind 5",
+    "of these where kind 5 gets stuck",
+    "of these with two nodes or more at 255",
+    "of these with nodes that take a 255 and nodes that take a label instead",
+    "of these with a node at 255 on a sheet that has no matching without its 255s",
+    "of these with a node cost of 2^40 on either side taken",
+    "of these with none kept before",
+    "of these that replace a matching kept before",
+    "of these with a lower sum than one kept before that is no dearer on the sheet and stays",
+    "of these that cost on the sheet what another kept before costs, which stays",
+    "records looked at, of kind 6, that get stuck",
+    "of these with a 255 somewhere",
+    "records looked at, of kind 6, held against all labellings",
+    "of these where several have the least sum",
+    "of these where the first two of them differ at two nodes",
+    "of these where the first two of them differ at three nodes or more",
+    "of these where the least sum of the sheet's prices is another matching's",
+    "records looked at, of kind 6, stuck after a look at all labellings",
 ];
 
 /// What shows how amounts are rounded, by place in ROUNDED.
@@ -434,6 +489,8 @@ struct Case<'a> {
     vanished: Vec<Place>,
     /// By going through all labellings, unless there are too many.
     smallest: Option<Option<Vec<u8>>>,
+    /// Likewise, when first asked for.
+    matchings: OnceCell<Option<Vec<Vec<u8>>>>,
     tally: &'a mut Tally,
 }
 
@@ -482,7 +539,8 @@ fn compare_case(rng: &mut Rng, tally: &mut Tally) -> Result<(), Difference> {
     let smallest = refusal(&sheet)
         .map_or_else(|| checker::smallest_matching(&checker::labels_by_node(&sheet)), |_| None);
     let (proved, twin) = (buffers.clone(), buffers);
-    let mut case = Case { sheet: &sheet, proved, twin, layout, vanished, smallest, tally };
+    let matchings = OnceCell::new();
+    let mut case = Case { sheet: &sheet, proved, twin, layout, vanished, smallest, matchings, tally };
     case.read(rng)?;
     case.edge(rng)?;
     case.poke_all(rng);
@@ -559,6 +617,11 @@ fn gets_stuck(nodes: &[&[u8]]) -> bool {
     })
 }
 
+/// At how many places two labellings differ.
+fn differences(one: &[u8], other: &[u8]) -> usize {
+    one.iter().zip(other).filter(|(one, other)| one != other).count()
+}
+
 /// The right number of places, now and then another.
 fn places(rng: &mut Rng, right: usize) -> usize {
     if rng.percent(95) {
@@ -570,7 +633,7 @@ fn places(rng: &mut Rng, right: usize) -> usize {
 
 impl Case<'_> {
     fn step(&mut self, rng: &mut Rng) -> Result<(), Difference> {
-        match rng.below(17) {
+        match rng.below(20) {
             0 => self.read(rng),
             1 => self.edge(rng),
             2 => self.open(),
@@ -583,6 +646,7 @@ impl Case<'_> {
             11 => self.with_other_length(rng),
             12..=13 => self.run_halves(rng),
             14 => self.place(rng),
+            15..=17 => self.run_assignments(rng),
             _ => {
                 self.poke(rng);
                 self.report(rng)?;
@@ -636,6 +700,7 @@ impl Case<'_> {
         self.see_blocked(Seen::BlockedRagged, number, records.len() % RECORD != 0);
         self.see_run(number, records, &right, &before.incumbent);
         self.see_records(rng, number, records, &right, &before);
+        self.check_assignment(rng, number, records, &right, &before)?;
         self.judge(2, u64::from(number), (left_number, left), (number, right))
     }
 
@@ -787,6 +852,103 @@ impl Case<'_> {
             }
         }
         self.run(rng, &records)
+    }
+
+    /// Runs lists with records of kind 6 on opened buffers or on any.
+    fn run_assignments(&mut self, rng: &mut Rng) -> Result<(), Difference> {
+        match rng.below(4) {
+            0 => self.open()?,
+            1 => {}
+            _ => self.poke_sums(rng),
+        }
+        let mut records = match rng.below(4) {
+            0 => ASSIGNMENT.to_vec(),
+            1 => [[5, 0, 0, 0, 0], ASSIGNMENT].concat(),
+            2 => [ASSIGNMENT, [5, 0, 0, 0, 0], ASSIGNMENT].concat(),
+            _ => [self.records(rng), ASSIGNMENT.to_vec()].concat(),
+        };
+        if rng.percent(10) {
+            // Of the last record, which is of kind 6.
+            let place = records.len() - 1 - rng.below(RECORD - 1);
+            records[place] = rng.pick(&[1, 2, 64, 255]);
+        }
+        self.run(rng, &records)
+    }
+
+    /// Of the records of kind 6 that were done one, by both sides on what the records before it leave: what it
+    /// keeps has to be what the checker says.
+    fn check_assignment(
+        &mut self,
+        rng: &mut Rng,
+        number: u8,
+        records: &[u8],
+        counts: &[u64],
+        before: &Buffers,
+    ) -> Result<(), Difference> {
+        let (&[done, _], 0 | 12 | 13) = (counts, number) else { return Ok(()) };
+        let (records, _) = records.as_chunks::<RECORD>();
+        let done = done as usize;
+        let at_kind = records.get(done).is_some_and(|record| record[0] == 6);
+        self.tally.see(Seen::AssignRefused, number == 12 && at_kind);
+        let first = rng.below(done);
+        let mut places = (first..done).chain(0..first).filter(|&place| records[place][0] == 6);
+        let Some(place) = places.next() else { return Ok(()) };
+        let records = records[..place].as_flattened();
+        let mut lent = before.clone();
+        Twin::run(self.sheet, records, &mut lent, &mut [0; COUNTS]);
+        let kept = self.checked_assignment::<Twin>(&lent)?;
+        self.see_assignment(&lent, kept.as_deref());
+        let mut lent = before.clone();
+        Proved::run(self.sheet, records, &mut lent, &mut [0; COUNTS]);
+        self.checked_assignment::<Proved>(&lent).map(|_| ())
+    }
+
+    /// The matching that one side finds by a record of kind 6, none if it gets stuck. What it keeps has to be
+    /// what the checker says of these buffers.
+    fn checked_assignment<S: Calls>(&self, lent: &Buffers) -> Result<Option<Vec<u8>>, Difference> {
+        let (mut counts, mut after) = ([0; COUNTS], lent.clone());
+        let number = S::run(self.sheet, &ASSIGNMENT, &mut after, &mut counts);
+        // With none kept it keeps what it finds.
+        let mut found = lent.clone();
+        found.incumbent.fill(twin::UNSET);
+        S::run(self.sheet, &ASSIGNMENT, &mut found, &mut [0; COUNTS]);
+        let stuck = counts[1] == 1;
+        let found = (!stuck).then_some(found.incumbent);
+        let nodes = self.nodes();
+        let tried = self
+            .matchings()
+            .is_none_or(|matchings| checker::cheapest(matchings, &nodes, &lent.nodes) == found.as_ref());
+        let mut expected = lent.clone();
+        if let Some(found) = found.as_ref().filter(|found| self.is_adopted(found, lent)) {
+            expected.incumbent.clone_from(found);
+        }
+        let matching = found.as_ref().is_none_or(|found| checker::is_matching(&nodes, found));
+        let right = number == 0 && counts[0] == 1 && stuck != checker::can_place(&nodes);
+        if tried && matching && right && after == expected {
+            Ok(found)
+        } else {
+            println!(
+                "{} answers {number}, {counts:?} and keeps {:?}, which is not so",
+                S::NAME,
+                after.incumbent
+            );
+            Err(Difference("kind 6"))
+        }
+    }
+
+    fn is_adopted(&self, found: &[u8], lent: &Buffers) -> bool {
+        let on_sheet = |positions: &[u8]| checker::cost_on_sheet(self.sheet, positions);
+        self.keeps_none(lent) || on_sheet(found) < on_sheet(&lent.incumbent)
+    }
+
+    /// Without nodes the empty matching counts as kept.
+    fn keeps_none(&self, lent: &Buffers) -> bool {
+        lent.incumbent.iter().all(|&position| position == twin::UNSET) && !lent.incumbent.is_empty()
+    }
+
+    /// All matchings of a readable sheet, unless there are too many labellings.
+    fn matchings(&self) -> Option<&Vec<Vec<u8>>> {
+        self.matchings.get_or_init(|| checker::matchings(&self.nodes())).as_ref()
     }
 
     /// How many nodes take a 255 in the matching kept.
@@ -970,15 +1132,14 @@ impl Case<'_> {
         let none = positions.is_empty();
         let first = positions.iter().all(|&position| position == 0);
         let vanished = self.vanished.iter().any(|place| usize::from(positions[place.node]) == place.position);
-        let without: Vec<&[u8]> =
-            self.nodes().iter().map(|own| own.strip_suffix(&[VANISHED]).unwrap_or(own)).collect();
+        let saved = vanished && !self.can_place_without_vanished();
         let seen = [
             (Seen::PlacedNone, none),
             (Seen::PlacedOnFirst, first && !none),
             (Seen::PlacedElsewhere, !first),
             (Seen::PlacedByChain, gets_stuck(&self.nodes())),
             (Seen::PlacedVanished, vanished),
-            (Seen::PlacedSaved, vanished && !checker::can_place(&without)),
+            (Seen::PlacedSaved, saved),
             (Seen::PlacedTried, self.smallest.is_some() && !none),
             (Seen::PlacedOverKept, over_kept && !none),
         ];
@@ -1007,6 +1168,82 @@ impl Case<'_> {
         for (what, occurs) in seen {
             self.tally.see(what, occurs);
         }
+    }
+
+    /// What a record of kind 6 found, and the buffers before it.
+    fn see_assignment(&mut self, lent: &Buffers, found: Option<&[u8]>) {
+        if let Some(found) = found {
+            self.see_assigned(lent, found);
+        }
+        let stuck = found.is_none();
+        self.tally.see(Seen::AssignedStuck, stuck);
+        self.tally.see(Seen::AssignedStuckVanished, stuck && !self.vanished.is_empty());
+        let Some(matchings) = self.matchings() else { return };
+        let nodes = self.nodes();
+        let sum = |positions: &[u8]| checker::sum_of_nodes(&nodes, &lent.nodes, positions);
+        let least = matchings.iter().map(|positions| sum(positions)).min();
+        let mut equal = matchings.iter().filter(|positions| Some(sum(positions)) == least);
+        let apart = equal.next().zip(equal.next()).map_or(0, |(one, other)| differences(one, other));
+        let mut opened = self.layout.buffers();
+        Twin::open(self.sheet, &mut opened);
+        let on_sheet = checker::cheapest(matchings, &nodes, &opened.nodes);
+        let seen = [
+            (Seen::AssignedTried, !stuck),
+            (Seen::AssignedTie, apart > 0),
+            (Seen::AssignedSwap, apart == 2),
+            (Seen::AssignedChain, apart > 2),
+            (Seen::AssignedMoved, on_sheet.map(Vec::as_slice) != found),
+            (Seen::AssignedStuckTried, stuck),
+        ];
+        for (what, occurs) in seen {
+            self.tally.see(what, occurs);
+        }
+    }
+
+    fn see_assigned(&mut self, lent: &Buffers, found: &[u8]) {
+        let nodes = self.nodes();
+        let sum = |positions: &[u8]| checker::sum_of_nodes(&nodes, &lent.nodes, positions);
+        let on_sheet = |positions: &[u8]| checker::cost_on_sheet(self.sheet, positions);
+        let mut by_turns = lent.clone();
+        by_turns.incumbent.fill(twin::UNSET);
+        let mut counts = [0; COUNTS];
+        Twin::run(self.sheet, &[5, 0, 0, 0, 0], &mut by_turns, &mut counts);
+        let takes = |place: &&Place| usize::from(found[place.node]) == place.position;
+        let taken = self.vanished.iter().filter(takes).count();
+        let costs = nodes.iter().zip(found).scan(0, |start, (own, &position)| {
+            let cost = lent.nodes[*start + usize::from(position)];
+            *start += own.len();
+            Some(cost)
+        });
+        let at_limit = costs.into_iter().any(|cost| cost.abs() == LIMIT);
+        let none = self.keeps_none(lent);
+        let other = !none && lent.incumbent != found;
+        let better = other && on_sheet(found) < on_sheet(&lent.incumbent);
+        let lower = other && sum(found) < sum(&lent.incumbent);
+        let even = other && on_sheet(found) == on_sheet(&lent.incumbent);
+        let seen = [
+            (Seen::Assigned, true),
+            (Seen::AssignedCheaper, counts[1] == 0 && sum(found) < sum(&by_turns.incumbent)),
+            (Seen::AssignedUnstuck, counts[1] == 1),
+            (Seen::AssignedVanished, taken > 1),
+            (Seen::AssignedBesideVanished, 0 < taken && taken < self.vanished.len()),
+            (Seen::AssignedSaved, taken > 0 && !self.can_place_without_vanished()),
+            (Seen::AssignedAtLimit, at_limit),
+            (Seen::AssignedFirst, none),
+            (Seen::AssignedBetter, better),
+            (Seen::AssignedDearer, lower && !better),
+            (Seen::AssignedEven, even),
+        ];
+        for (what, occurs) in seen {
+            self.tally.see(what, occurs);
+        }
+    }
+
+    fn can_place_without_vanished(&self) -> bool {
+        let nodes = self.nodes();
+        let without: Vec<&[u8]> =
+            nodes.iter().map(|own| own.strip_suffix(&[VANISHED]).unwrap_or(own)).collect();
+        checker::can_place(&without)
     }
 
     fn see_unplaced(&mut self, number: u8) {
@@ -1109,6 +1346,24 @@ impl Case<'_> {
         self.proved = self.twin.clone();
     }
 
+    /// Node costs of few values or many, around 0 or at the limits, and any matching kept or none.
+    fn poke_sums(&mut self, rng: &mut Rng) {
+        let spread = rng.pick(&[0, 1, 3, 9, 2_000_000, 30_000_000, LIMIT]);
+        let bases = rng.pick(&[&[0][..], &[0], &[LIMIT], &[-LIMIT], &[-LIMIT, LIMIT]]);
+        for cost in &mut self.twin.nodes {
+            let base = rng.pick(bases);
+            let apart = rng.between(-spread, spread);
+            *cost = if base == 0 { apart } else { base - base.signum() * apart.abs() };
+        }
+        if let Ok(sheet) = twin::read(self.sheet) {
+            fill_matching(rng, &sheet, &mut self.twin.incumbent);
+        }
+        if rng.percent(30) {
+            self.twin.incumbent.fill(twin::UNSET);
+        }
+        self.proved = self.twin.clone();
+    }
+
     fn poke_all(&mut self, rng: &mut Rng) {
         let wild = rng.percent(10);
         for buffer in 0..3 {
@@ -1127,7 +1382,7 @@ impl Case<'_> {
         let count = rng.pick(&[0, 1, 3, 10, 40, 200]);
         let mut list = Vec::new();
         for _ in 0..count {
-            let mut record = sheet.as_ref().map_or([5, 0, 0, 0, 0], |sheet| legal_record(rng, sheet));
+            let mut record = sheet.as_ref().map_or(ASSIGNMENT, |sheet| legal_record(rng, sheet));
             if rng.percent(bad) {
                 let place = self.vanished.get(rng.below(self.vanished.len()));
                 match place.filter(|_| rng.percent(40)) {
@@ -1247,11 +1502,12 @@ fn some_share(rng: &mut Rng) -> u8 {
 }
 
 fn legal_record(rng: &mut Rng, sheet: &Sheet) -> [u8; RECORD] {
-    let kind = 1 + rng.below(5) as u8;
+    let kind = 1 + rng.below(6) as u8;
+    let rounding = [5 + kind % 2, 0, 0, 0, 0];
     let share = if rng.percent(40) { 1 } else { some_share(rng) };
     let nodes = sheet.degrees.len();
-    if kind == 5 || nodes == 0 || (kind <= 2 && sheet.ends.is_empty()) {
-        return [5, 0, 0, 0, 0];
+    if kind >= 5 || nodes == 0 || (kind <= 2 && sheet.ends.is_empty()) {
+        return rounding;
     }
     if kind <= 2 {
         let edge = rng.below(sheet.ends.len());
@@ -1262,7 +1518,7 @@ fn legal_record(rng: &mut Rng, sheet: &Sheet) -> [u8; RECORD] {
     let last = sheet.node_starts[node] + u16::from(sheet.degrees[node]) - 1;
     let vanishes = sheet.labels[usize::from(last)] == VANISHED;
     match usize::from(sheet.degrees[node]) - usize::from(vanishes) {
-        0 => [5, 0, 0, 0, 0],
+        0 => rounding,
         positions => [kind, node as u8, rng.below(positions) as u8, 0, share],
     }
 }
@@ -1275,7 +1531,7 @@ fn vanished_record(rng: &mut Rng, place: &Place) -> [u8; RECORD] {
 
 fn spoil(rng: &mut Rng, record: &mut [u8; RECORD]) {
     match rng.below(6) {
-        0 => record[0] = rng.pick(&[0, 6, 255]),
+        0 => record[0] = rng.pick(&[0, 6, 7, 255]),
         1 => record[1] = rng.byte() & 127,
         2 => record[2] = rng.byte() & 31,
         3 => record[3] = rng.pick(&[1, 2, 255]),
