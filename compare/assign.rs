@@ -120,16 +120,11 @@ key!(i32, u32);
 key!(i64, u64);
 
 /// A key and its lane.
-trait InLane<K>: Sized {
-    /// The lower of two, without a branch.
-    fn lower(self, other: Self, less: impl Fn(K, K) -> bool) -> Self;
-}
+type InLane<K> = (K, usize);
 
-impl<K: Key> InLane<K> for (K, usize) {
-    fn lower(self, other: Self, less: impl Fn(K, K) -> bool) -> Self {
-        let is_other = less(other.0, self.0);
-        (select_unpredictable(is_other, other.0, self.0), select_unpredictable(is_other, other.1, self.1))
-    }
+/// One of two, without a branch.
+fn pick<K>(is_other: bool, one: InLane<K>, other: InLane<K>) -> InLane<K> {
+    (select_unpredictable(is_other, other.0, one.0), select_unpredictable(is_other, other.1, one.1))
 }
 
 /// Nodes and the labels that they take at prices.
@@ -229,9 +224,9 @@ impl<K: Key> Market<K> {
     /// False if there is no matching.
     fn place_all(&mut self) -> Result<bool, Wide> {
         let mut bids = BIDS;
-        let mut waiting =
-            self.bid_all(u64::MAX.checked_shr((MAX_NODES - self.nodes) as u32).unwrap_or(0), &mut bids);
-        waiting = self.bid_all(waiting, &mut bids);
+        let everyone = u64::MAX.checked_shr((MAX_NODES - self.nodes) as u32).unwrap_or(0);
+        let waiting = self.bid_all(everyone, &mut bids);
+        let waiting = self.bid_all(waiting, &mut bids);
         for node in members(waiting) {
             if !self.search(node)? {
                 return Ok(false);
@@ -304,13 +299,12 @@ impl<K: Key> Market<K> {
                 first[lane] = first[lane].min(key);
             }
         }
-        let both = |one: usize, other: usize| {
-            let lane = (first[one], one).lower((first[other], other), |a, b| a < b);
-            (lane, second[one].min(second[other]).min(first[one].max(first[other])))
-        };
-        let (low, high) = (both(0, 1), both(2, 3));
-        let (key, lane) = low.0.lower(high.0, |a, b| a < b);
-        ((key, key.label(lane)), low.1.min(high.1).min(low.0 .0.max(high.0 .0)))
+        let lower = |one: InLane<K>, other: InLane<K>| pick(other.0 < one.0, one, other);
+        let (low, high) = (lower((first[0], 0), (first[1], 1)), lower((first[2], 2), (first[3], 3)));
+        let (key, lane) = lower(low, high);
+        let rivals = first[0].max(first[1]).min(first[2].max(first[3])).min(low.0.max(high.0));
+        let [a, b, c, d] = second;
+        ((key, key.label(lane)), a.min(b).min(c.min(d)).min(rivals))
     }
 
     /// The labels at which the node has this key.
@@ -483,10 +477,9 @@ impl<K: Key> Search<K> {
                 least[lane] = least[lane].least_by_bits(key);
             }
         }
-        let lane = |lane: usize| (least[lane], lane);
-        let low = lane(0).lower(lane(1), K::less_by_bits);
-        let high = lane(2).lower(lane(3), K::less_by_bits);
-        let (key, lane) = low.lower(high, K::less_by_bits);
+        let lower = |one: InLane<K>, other: InLane<K>| pick(other.0.less_by_bits(one.0), one, other);
+        let (low, high) = (lower((least[0], 0), (least[1], 1)), lower((least[2], 2), (least[3], 3)));
+        let (key, lane) = lower(low, high);
         (key, key.label(lane))
     }
 
