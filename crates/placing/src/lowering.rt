@@ -84,11 +84,13 @@ impl<'a> Seats<'a> {
         let owed = must_stay(terms.idle, label);
         if owed {
             if let Err(seen) = self.fill(u, label, terms, steps) {
-                self.settle(u, bit_of(label), seen, steps);
+                let goals = bit_of(label);
+                self.settle(u, goals, seen, steps);
                 return;
             }
         }
-        let goals = self.free | self.loose(u, terms.end);
+        let loose = self.loose(u, terms.end);
+        let goals = self.free | loose;
         self.settle(u, goals, closed, steps);
     }
 

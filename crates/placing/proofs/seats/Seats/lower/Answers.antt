@@ -11,7 +11,7 @@ use Rattle.placing.specs.Words.{entry, flag, Linked, Out, Spent, Tried}
 use Rattle.placing.proofs.Linking.{linked_as}
 use Rattle.placing.proofs.Settling.{lowest_stays, left_same, left_out, out_idle, aimed_open, lowest_open, lowest_owed}
 use Rattle.placing.proofs.seats.Seats.lower.Goals as goal
-use Rattle.placing.proofs.seats.Seats.lower.Goals.{After-loose, then-owed+in_default, else-owed}
+use Rattle.placing.proofs.seats.Seats.lower.Goals.{After-loose-loose, then-owed+in_default, else-owed}
 
 pub returns-then-not-has_below-clause-lowest : goal.returns-then-not-has_below-clause-lowest
 returns-then-not-has_below-clause-lowest c = let (v, below, _) = c.requires in lowest_stays c.args.self.now.linked v below (c.has_below.ensures c.if-not-has_below.true)
@@ -25,7 +25,7 @@ returns-in-Err-clause-lowest c =
     let m = entry s.taken u in
     lowest_owed s.linked v below (linked_as (ap (λ n. n.sets) e) f c.leave.new.self.linked) (left_same s.linked v below) small asked (left_out s.linked v below)
     (transport (λ j. Spent (e j).sets (f j) c.args.terms.now.idle m u (e j).count c.args.terms.now.closed c.in-Err.seen) spent.2)
-    (transport (λ j. Tried ((c.fill.ensures.same ∙ e) j).sets ((c.fill.ensures.same ∙ e) j).own ((spent.0 ∙ f) j) (c.bit_of.ensures j) c.in-Err.seen u c.settle.new.self.taken) c.settle.ensures.tried)
+    (transport (λ j. Tried ((c.fill.ensures.same ∙ e) j).sets ((c.fill.ensures.same ∙ e) j).own ((spent.0 ∙ f) j) (c.bit_of-goals.ensures j) c.in-Err.seen u c.settle.new.self.taken) c.settle.ensures.tried)
 
 -- u has left its label, and all that have to be taken are taken by others
 record Freed (old : Seats) (idle u : ℕ) (s : Seats) : Type 0 where
@@ -34,7 +34,7 @@ record Freed (old : Seats) (idle u : ℕ) (s : Seats) : Type 0 where
   agree : (w : ℕ) → w < u → entry s.taken w ≡ entry old.taken w
 
 -- whether or not another node took the label that u left
-freed : (p : After-loose) → Freed p.args.self.now p.args.terms.now.idle p.args.u p.if-owed.self
+freed : (p : After-loose-loose) → Freed p.args.self.now p.args.terms.now.idle p.args.u p.if-owed.self
 freed p =
     let s = p.args.self.now in let u = p.args.u in let idle = p.args.terms.now.idle in let (v, below, _) = p.requires in let e = p.leave.ensures.same in let f = p.leave.ensures.taken in
     let agree : (w : ℕ) → w < u → entry p.leave.new.self.taken w ≡ entry s.taken w = (λ w h. ap (λ (t : List ℕ). entry t w) f ∙ left_same s.linked v below w h) in
@@ -49,13 +49,13 @@ freed p =
 
 pub settle-requires-2 : goal.settle-requires-2
 settle-requires-2 c =
-    let r = freed (goal.at.settle-requires-2 c).After-loose in
-    (omega (arith, c.requires.1, c.args.self.now.nodes.now.few), omega (arith, r.out.none), aimed_open c.loose.result c.if-owed.self.linked c.loose.ensures.only)
+    let r = freed (goal.at.settle-requires-2 c).After-loose-loose in
+    (omega (arith, c.requires.1, c.args.self.now.nodes.now.few), omega (arith, r.out.none), aimed_open c.loose-loose.result c.if-owed.self.linked c.loose-loose.ensures.only)
 
 pub returns-clause-lowest : goal.returns-clause-lowest
 returns-clause-lowest c =
     let s = c.args.self.now in let (v, below, _) = c.requires in
-    let r = freed (goal.at.returns-clause-lowest c).After-loose in
-    lowest_open s.linked v below (subst (λ n. Linked n.sets c.if-owed.self.taken c.if-owed.self.holders c.if-owed.self.reach c.if-owed.self.free) r.same c.if-owed.self.linked) r.agree c.loose.result r.out
-    (subst (λ n. (w : ℕ) → c.args.u < w → w < n.count → flag n.own w ≡ true → entry c.if-owed.self.taken w < 64 → bit c.loose.result (entry c.if-owed.self.taken w) ≡ true) r.same c.loose.ensures.all)
-    (subst (λ n. Tried n.sets n.own c.if-owed.self.taken (bit_or c.if-owed.self.free c.loose.result) c.args.terms.now.closed c.args.u c.settle-2.new.self.taken) r.same c.settle-2.ensures.tried)
+    let r = freed (goal.at.returns-clause-lowest c).After-loose-loose in
+    lowest_open s.linked v below (subst (λ n. Linked n.sets c.if-owed.self.taken c.if-owed.self.holders c.if-owed.self.reach c.if-owed.self.free) r.same c.if-owed.self.linked) r.agree c.loose-loose.result r.out
+    (subst (λ n. (w : ℕ) → c.args.u < w → w < n.count → flag n.own w ≡ true → entry c.if-owed.self.taken w < 64 → bit c.loose-loose.result (entry c.if-owed.self.taken w) ≡ true) r.same c.loose-loose.ensures.all)
+    (subst (λ n. Tried n.sets n.own c.if-owed.self.taken (bit_or c.if-owed.self.free c.loose-loose.result) c.args.terms.now.closed c.args.u c.settle-2.new.self.taken) r.same c.settle-2.ensures.tried)
