@@ -16,9 +16,9 @@ use Rattle.placing.specs.declared.paths.Paths.{Paths}
 use Rattle.placing.specs.declared.seats.Seats.{Seats}
 use Rattle.placing.specs.Words.{entry, All}
 use Rattle.placing.specs.Paths.{may, unmet, far_of, Nearest, Turn, Gone, Searched, Ended}
-use Rattle.placing.proofs.Reaching.{far_home}
+use Rattle.placing.proofs.Reaching.{far_home, far_else}
 use Rattle.placing.proofs.Slots.{same_slot}
-use Rattle.placing.proofs.Pathing.{far_else, count_all, way_small, node_few, nodes_once, nearest_all}
+use Rattle.placing.proofs.Pathing.{count_all, way_small, node_few, nodes_once, nearest_all}
 
 module _ {o : Offers} {s : Seats} {p : Paths} {root : ℕ} (t : Turn o s p.prices root) (v : Searched o s p root (p.step + 1)) where
   -- at 255, to which no label that waits is nearer

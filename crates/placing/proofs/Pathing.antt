@@ -27,17 +27,12 @@ use Rattle.placing.specs.Words.{entry}
 use Rattle.placing.specs.Priced.{price}
 use Rattle.placing.specs.Paths.{paid, may, way, unmet, far_of, by_of, Kept, Same, Scanned, Nearest, Turn, Gone, Step, Searched}
 use Rattle.placing.proofs.Offering.{paid_within}
-use Rattle.placing.proofs.Reaching.{far_small, far_home}
+use Rattle.placing.proofs.Reaching.{far_small, far_home, far_else}
 use Rattle.placing.proofs.Slots.{opens-bit}
 
 -- a sum of three
 pub add3 : (a b c : ℤ) → ((a +ℤ b) +ℤ c) ⁺ + (a ⁻ + b ⁻ + c ⁻) ≡ (a ⁺ + b ⁺ + c ⁺) + ((a +ℤ b) +ℤ c) ⁻
 add3 a b c = omega (arith, add a b, add (a +ℤ b) c)
-
--- what is neither below 64 nor 255 is not met
-pub far_else : (p : Paths) (l : ℕ) → far_of p l <ℤ unmet → (l < 64) ⊎ (l ≡ 255)
-unfolding far_of
-far_else p l h = by-test (ltb l 64) (λ t. inl (ltb-true l 64 t)) (λ t. by-test (eqb l 255) (λ e. inr (eqb-true l 255 e)) (λ e. absurd (let z : far_of p l ≡ unmet = if-false _ _ t ∙ if-false _ _ e in omega (linear, parts z))))
 
 pub count_all : (n : ℕ) → count n (λ _. true) ≡ n
 unfolding count

@@ -11,9 +11,9 @@ use Rattle.assignment.proofs.Counts.{by-same}
 use Rattle.placing.specs.declared.paths.Paths.{Paths}
 use Rattle.placing.specs.Words.{entry}
 use Rattle.placing.specs.Priced.{price}
-use Rattle.placing.specs.Paths.{far_of, Raising, Stays, RaisedTo}
+use Rattle.placing.specs.Paths.{far_of, Raising, SamePaths, RaisedTo}
 
-pub stays_self : (p : Paths) → Stays p p
+pub stays_self : (p : Paths) → SamePaths p p
 stays_self p = record { far = refl; by = refl; labels = refl; nodes = refl; step = refl; home = refl; home_by = refl }
 
 pub raised_none : (p : Paths) (z : ℤ) → length p.prices ≡ 64 → RaisedTo p p z 1
@@ -29,7 +29,7 @@ module _ {p p' : Paths} {z : ℤ} {i : ℕ} (r : Raising p z) (v : RaisedTo p p'
   pub price_still : price p'.prices (entry p.labels i) ≡ price p.prices (entry p.labels i)
   price_still = v.others (entry p.labels i) (λ j h g e. r.once j i h g (omega arith) e)
 
-  pub raised_more : {x : ℕ} {y : ℤ} → x ≡ entry p.labels i → y ≡ price p.prices (entry p.labels i) +ℤ (z -ℤ far_of p (entry p.labels i)) → {w : Paths} → w.prices ≡ set p'.prices x y → Stays p' w → RaisedTo p w z (i + 1)
+  pub raised_more : {x : ℕ} {y : ℤ} → x ≡ entry p.labels i → y ≡ price p.prices (entry p.labels i) +ℤ (z -ℤ far_of p (entry p.labels i)) → {w : Paths} → w.prices ≡ set p'.prices x y → SamePaths p' w → RaisedTo p w z (i + 1)
   raised_more {x} {y} ex ey {w} ew s = record {
     stays = record {
       far = s.far ∙ v.stays.far;

@@ -16,32 +16,57 @@ use lib.Seq.{get_or-set_same, get_or-set_other}
 use Rattle.integers.specs.Words.{bit}
 use Rattle.integers.proofs.Words.{bit_or_lem, bit_power, bit_own}
 use Rattle.integers.proofs.Places.{by-test, if-true, if-false, right_true}
-use Rattle.integers.proofs.Parts.{linear}
+use Rattle.integers.proofs.Parts.{linear, parts}
 use Rattle.assignment.proofs.Counts.{by-same}
 use Rattle.placing.specs.declared.offers.Offers.{Offers}
 use Rattle.placing.specs.declared.paths.Paths.{Paths}
 use Rattle.placing.specs.Words.{entry}
 use Rattle.placing.specs.Priced.{price}
-use Rattle.placing.specs.Paths.{may, way, far_of, by_of, Kept, Same, Nearer, Reached, Scanned}
+use Rattle.placing.specs.Paths.{may, way, unmet, by_kind, far_of, by_of, Kept, Same, Nearer, Reached, Scanned}
 
 -- ---- the two tables by the kind of label
+
+module _ {A : Type 0} where
+  kind_small : {l : ℕ} (x y z : A) → l < 64 → by_kind l x y z ≡ x
+  unfolding by_kind
+  kind_small {l} x y z h = if-true x (cond (eqb l 255) y z) (lt-ltb l 64 h)
+
+  kind_home : {l : ℕ} (x y z : A) → l ≡ 255 → by_kind l x y z ≡ y
+  unfolding by_kind
+  kind_home {l} x y z e = rw e
+
+  kind_else : (l : ℕ) (x y z : A) → (l < 64) ⊎ (l ≡ 255) ⊎ (by_kind l x y z ≡ z)
+  unfolding by_kind
+  kind_else l x y z = by-test (ltb l 64) (λ t. inl (ltb-true l 64 t))
+      (λ t. inr (by-test (eqb l 255) (λ e. inl (eqb-true l 255 e)) (λ e. inr (if-false x (cond (eqb l 255) y z) t ∙ if-false y z e))))
+
+  kind_same : (l : ℕ) {x x' y y' : A} (z : A) → (l < 64 → x' ≡ x) → (l ≡ 255 → y' ≡ y) → by_kind l x' y' z ≡ by_kind l x y z
+  unfolding by_kind
+  kind_same l z f g = by-test (ltb l 64)
+      (λ t. if-true _ _ t ∙ f (ltb-true l 64 t) ∙ sym (if-true _ _ t))
+      (λ t. if-false _ _ t ∙ by-test (eqb l 255) (λ e. if-true _ _ e ∙ g (eqb-true l 255 e) ∙ sym (if-true _ _ e)) (λ e. if-false _ _ e ∙ sym (if-false _ _ e)) ∙ sym (if-false _ _ t))
 
 module _ (p : Paths) where
   pub far_small : {l : ℕ} → l < 64 → far_of p l ≡ get_or p.far l (pos 0)
   unfolding far_of
-  far_small {l} h = if-true _ _ (lt-ltb l 64 h)
+  far_small {l} h = kind_small (get_or p.far l (pos 0)) p.home unmet h
 
   pub by_small : {l : ℕ} → l < 64 → by_of p l ≡ entry p.by l
   unfolding by_of
-  by_small {l} h = if-true _ _ (lt-ltb l 64 h)
+  by_small {l} h = kind_small (entry p.by l) p.home_by 0 h
 
   pub far_home : {l : ℕ} → l ≡ 255 → far_of p l ≡ p.home
   unfolding far_of
-  far_home {l} e = rw e
+  far_home {l} e = kind_home (get_or p.far l (pos 0)) p.home unmet e
 
   pub by_home : {l : ℕ} → l ≡ 255 → by_of p l ≡ p.home_by
   unfolding by_of
-  by_home {l} e = rw e
+  by_home {l} e = kind_home (entry p.by l) p.home_by 0 e
+
+  -- what is neither below 64 nor 255 is not met
+  pub far_else : (l : ℕ) → far_of p l <ℤ unmet → (l < 64) ⊎ (l ≡ 255)
+  unfolding far_of
+  far_else l h = ⊎_elim inl (λ s. ⊎_elim inr (λ e. absurd (omega (linear, parts e))) s) (kind_else l (get_or p.far l (pos 0)) p.home unmet)
 
 -- no price stands beyond the table
 pub price_beyond : (prices : List ℤ) (l : ℕ) → length prices ≡ 64 → 64 ≤ l → price prices l ≡ pos 0
@@ -51,15 +76,11 @@ price_beyond prices l z h = get_or-eq_default prices (pos 0) {n = l} (omega arit
 module _ (p p' : Paths) where
   far_same : (l : ℕ) → (l < 64 → get_or p'.far l (pos 0) ≡ get_or p.far l (pos 0)) → (l ≡ 255 → p'.home ≡ p.home) → far_of p' l ≡ far_of p l
   unfolding far_of
-  far_same l f g = by-test (ltb l 64)
-      (λ t. if-true _ _ t ∙ f (ltb-true l 64 t) ∙ sym (if-true _ _ t))
-      (λ t. if-false _ _ t ∙ by-test (eqb l 255) (λ e. if-true _ _ e ∙ g (eqb-true l 255 e) ∙ sym (if-true _ _ e)) (λ e. if-false _ _ e ∙ sym (if-false _ _ e)) ∙ sym (if-false _ _ t))
+  far_same l = kind_same l unmet
 
   by_same_lem : (l : ℕ) → (l < 64 → entry p'.by l ≡ entry p.by l) → (l ≡ 255 → p'.home_by ≡ p.home_by) → by_of p' l ≡ by_of p l
   unfolding by_of
-  by_same_lem l f g = by-test (ltb l 64)
-      (λ t. if-true _ _ t ∙ f (ltb-true l 64 t) ∙ sym (if-true _ _ t))
-      (λ t. if-false _ _ t ∙ by-test (eqb l 255) (λ e. if-true _ _ e ∙ g (eqb-true l 255 e) ∙ sym (if-true _ _ e)) (λ e. if-false _ _ e ∙ sym (if-false _ _ e)) ∙ sym (if-false _ _ t))
+  by_same_lem l = kind_same l 0
 
 pub kept_self : (p : Paths) → Kept p p
 kept_self p = record { prices = refl; nodes = refl; labels = refl; step = refl }

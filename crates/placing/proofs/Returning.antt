@@ -21,7 +21,7 @@ use Rattle.assignment.proofs.Counts.{differ, by-same}
 use Rattle.placing.specs.declared.paths.Paths.{Paths}
 use Rattle.placing.specs.Words.{entry, flag, opens, Linked, Joined, Seated}
 use Rattle.placing.specs.Priced.{price, net}
-use Rattle.placing.specs.Paths.{by_of, Best, Trace, Opening, Settled}
+use Rattle.placing.specs.Paths.{by_of, Best, Trace, Opening, Cheapest}
 use Rattle.placing.proofs.Slots.{opens-bit, opens-own}
 
 -- ---- a node leaves its label for another one that costs it least, or for 255: the label of its step is free now
@@ -158,7 +158,7 @@ module _ {sets : List ℕ} {own : List Bool} {c : ℕ → ℕ → ℤ} {p : Path
     pub root_away : 64 ≤ entry taken root
     root_away = let e = v.seated.later root (omega arith) v.root in omega arith
 
-    pub moved_done : {taken' : List ℕ} {free' : ℕ} → taken' ≡ set taken root l → free' ≡ bit_xor free (2 ^ l) → Settled (root + 1) sets own c taken' free' p.prices
+    pub moved_done : {taken' : List ℕ} {free' : ℕ} → taken' ≡ set taken root l → free' ≡ bit_xor free (2 ^ l) → Cheapest (root + 1) sets own c taken' free' p.prices
     moved_done {taken'} {free'} et ef = record {
       seated = record {
         seat = λ w h g. by-same w root

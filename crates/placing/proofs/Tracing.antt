@@ -21,7 +21,7 @@ use Rattle.placing.specs.declared.paths.Paths.{Paths}
 use Rattle.placing.specs.declared.seats.Seats.{Seats}
 use Rattle.placing.specs.Words.{entry, flag, opens, Joined, Seated}
 use Rattle.placing.specs.Priced.{price, net, Priced}
-use Rattle.placing.specs.Paths.{paid, may, way, unmet, far_of, by_of, Turn, Gone, Searched, Ended, Raising, RaisedTo, Best, Link, Trace, Opening, Settled}
+use Rattle.placing.specs.Paths.{paid, may, way, unmet, far_of, by_of, Turn, Gone, Searched, Ended, Raising, RaisedTo, Best, Link, Trace, Opening, Cheapest}
 use Rattle.placing.proofs.Reaching.{price_beyond}
 use Rattle.placing.proofs.Slots.{opens-own}
 use Rattle.placing.proofs.Pathing.{add3, root_few, length_fits, labels_once, step_node}
@@ -221,7 +221,7 @@ module _ {o : Offers} {s : Seats} {p : Paths} {root : ℕ} (t : Turn o s p.price
           (subst (λ l. (by_of p l ≤ p.step) × Best o.nodes.now.sets o.nodes.now.own (paid o) q.prices (entry p.nodes (by_of p l)) l) last (link_at end e.met (le_refl z)))
 
       -- over no other node: the root has it, and takes no label
-      pub settled_home : 0 ≡ by_of p 255 → Settled (root + 1) o.nodes.now.sets o.nodes.now.own (paid o) s.taken s.free q.prices
+      pub settled_home : 0 ≡ by_of p 255 → Cheapest (root + 1) o.nodes.now.sets o.nodes.now.own (paid o) s.taken s.free q.prices
       settled_home b =
           let best = rw v.root_node at (best_home b).1 in
           let at = t.seated.later root (omega arith) (root_few t) in
@@ -262,7 +262,7 @@ module _ {o : Offers} {s : Seats} {p : Paths} {root : ℕ} (t : Turn o s p.price
         opening_home {left} joined = subst (λ w. Opening o.nodes.now.sets o.nodes.now.own (paid o) w (set s.taken (entry p.nodes i) 255) left (entry p.labels i)) raised_is (home_raised joined)
 
     -- the nodes placed then, with the prices
-    pub settled_priced : {taken : List ℕ} {free : ℕ} → Settled (root + 1) o.nodes.now.sets o.nodes.now.own (paid o) taken free q.prices → Priced (root + 1) o.nodes.now.sets o.nodes.now.own (paid o) taken free q.prices
+    pub settled_priced : {taken : List ℕ} {free : ℕ} → Cheapest (root + 1) o.nodes.now.sets o.nodes.now.own (paid o) taken free q.prices → Priced (root + 1) o.nodes.now.sets o.nodes.now.own (paid o) taken free q.prices
     settled_priced m = record { size = r.size; floor = prices_floor; top = prices_top; least = m.least; idle = m.idle }
 
 -- ---- no node is placed

@@ -25,12 +25,16 @@ Kind l = (l < 64) ⊎ (l ≡ 255)
 abbrev pub unmet : ℤ
 unmet = pos (2 ^ 63 - 1)
 
+-- x of a label below 64, y of 255, and z of any other number
+unfoldable pub by_kind : {A : Type 0} → ℕ → A → A → A → A
+by_kind l x y z = cond (ltb l 64) x (cond (eqb l 255) y z)
+
 -- the least way to a label, and the step from which it comes
 unfoldable pub far_of : Paths → ℕ → ℤ
-far_of p l = cond (ltb l 64) (get_or p.far l (pos 0)) (cond (eqb l 255) p.home unmet)
+far_of p l = by_kind l (get_or p.far l (pos 0)) p.home unmet
 
 unfoldable pub by_of : Paths → ℕ → ℕ
-by_of p l = cond (ltb l 64) (entry p.by l) (cond (eqb l 255) p.home_by 0)
+by_of p l = by_kind l (entry p.by l) p.home_by 0
 
 -- a way that reaches u by the length b, and goes on to its label l
 abbrev pub way : Offers → List ℤ → ℕ → ℤ → ℕ → ℤ
@@ -143,7 +147,7 @@ pub record Raising (p : Paths) (z : ℤ) : Type 0 where
   pub fits : (i : ℕ) → 0 < i → i ≤ p.step → nat_abs (price p.prices (entry p.labels i) +ℤ (z -ℤ far_of p (entry p.labels i))) ≤ 2 ^ 50
 
 -- all but the prices
-pub record Stays (p p' : Paths) : Type 0 where
+pub record SamePaths (p p' : Paths) : Type 0 where
   pub far : p'.far ≡ p.far
   pub by : p'.by ≡ p.by
   pub labels : p'.labels ≡ p.labels
@@ -154,7 +158,7 @@ pub record Stays (p p' : Paths) : Type 0 where
 
 -- those of the first k steps' labels are raised
 pub record RaisedTo (p p' : Paths) (z : ℤ) (k : ℕ) : Type 0 where
-  pub stays : Stays p p'
+  pub stays : SamePaths p p'
   pub size : length p'.prices ≡ 64
   pub raised : (i : ℕ) → 0 < i → i < k → price p'.prices (entry p.labels i) ≡ price p.prices (entry p.labels i) +ℤ (z -ℤ far_of p (entry p.labels i))
   pub others : (l : ℕ) → ((i : ℕ) → 0 < i → i < k → entry p.labels i ≡ l → ⊥) → price p'.prices l ≡ price p.prices l
@@ -190,7 +194,7 @@ pub record Opening (sets : List ℕ) (own : List Bool) (c : ℕ → ℕ → ℤ)
   pub still : (i : ℕ) → 0 < i → i ≤ by_of p l → (entry p.nodes i < entry p.nodes 0) × (entry taken (entry p.nodes i) ≡ entry p.labels i)
 
 -- the nodes below n are placed at least cost
-pub record Settled (n : ℕ) (sets : List ℕ) (own : List Bool) (c : ℕ → ℕ → ℤ) (taken : List ℕ) (free : ℕ) (prices : List ℤ) : Type 0 where
+pub record Cheapest (n : ℕ) (sets : List ℕ) (own : List Bool) (c : ℕ → ℕ → ℤ) (taken : List ℕ) (free : ℕ) (prices : List ℤ) : Type 0 where
   pub seated : Seated own 64 n taken
   pub least : (u k : ℕ) → u < n → opens sets own u k ≡ true → net c prices u (entry taken u) ≤ℤ net c prices u k
   pub idle : (l : ℕ) → l < 64 → bit free l ≡ true → price prices l ≡ pos 0

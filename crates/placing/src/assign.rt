@@ -2,7 +2,7 @@
 ghost use Rattle.std.specs.Prelude.{◌≡◌, ℕ, ◌+◌, ◌<◌, ℤ, MatchOption};
 ghost use Rattle.placing.specs.Words.{entry, All, Seated};
 ghost use Rattle.placing.specs.Priced.{Priced};
-ghost use Rattle.placing.specs.Paths.{paid, Turn, Trace, Opening, Settled};
+ghost use Rattle.placing.specs.Paths.{paid, Turn, Trace, Opening, Cheapest};
 
 use crate::offers::Offers;
 use crate::paths::Paths;
@@ -15,7 +15,7 @@ impl<'a> Seats<'a> {
         requires { (c : ℕ → ℕ → ℤ) × Trace self.old.nodes.now.sets self.old.nodes.now.own c paths.now × Opening self.old.nodes.now.sets self.old.nodes.now.own c paths.now self.old.taken self.old.free label }
         ensures same { self.new.nodes.now ≡ self.old.nodes.now }
         ensures placed { (c : ℕ → ℕ → ℤ) → Trace self.old.nodes.now.sets self.old.nodes.now.own c paths.now → Opening self.old.nodes.now.sets self.old.nodes.now.own c paths.now self.old.taken self.old.free label
-            → Settled (entry paths.now.nodes 0 + 1) self.old.nodes.now.sets self.old.nodes.now.own c self.new.taken self.new.free paths.now.prices }
+            → Cheapest (entry paths.now.nodes 0 + 1) self.old.nodes.now.sets self.old.nodes.now.own c self.new.taken self.new.free paths.now.prices }
     {
         let mut l = label;
         let mut step = paths.by[usize::from(l)];

@@ -149,6 +149,7 @@ impl Paths {
         self.waiting ^= bit_of(l);
         self.scan(offers, u, base);
     }
+
     // Goes from the root to the nearest label that is free, or to 255: the label where it ends, and none if no way leads on.
     pub(crate) fn find_end(&mut self, seats: &Seats, offers: &Offers, root: usize) -> Option<u8>
         requires { Turn offers.now seats.now self.old.prices root }

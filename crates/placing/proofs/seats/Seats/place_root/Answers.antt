@@ -13,7 +13,7 @@ use Rattle.placing.specs.declared.seats.Seats.{Seats}
 use Rattle.placing.specs.declared.tables.Nodes.{Nodes}
 use Rattle.placing.specs.Words.{entry, Joined, Seated}
 use Rattle.placing.specs.Priced.{Priced}
-use Rattle.placing.specs.Paths.{paid, far_of, by_of, Turn, Searched, Ended, RaisedTo, Trace, Opening, Settled}
+use Rattle.placing.specs.Paths.{paid, far_of, by_of, Turn, Searched, Ended, RaisedTo, Trace, Opening, Cheapest}
 use Rattle.placing.proofs.Reaching.{by_home}
 use Rattle.placing.proofs.Tracing.{raising, trace, opening, settled_home, leaver_few, leaver_step, opening_home, settled_priced}
 use Rattle.placing.proofs.seats.Seats.place_root.Goals as goal
@@ -61,12 +61,12 @@ module _ (c : After-raise) where
     opening_here : {taken : List ℕ} {free l : ℕ} → Opening (o h).nodes.now.sets (o h).nodes.now.own (paid (o h)) q taken free l → Opening n.sets n.own (paid (o h)) q taken free l
     opening_here {taken} {free} {l} v = subst (λ (n : Nodes). Opening n.sets n.own (paid (o h)) q taken free l) (sym same) v
 
-    done : {taken : List ℕ} {free : ℕ} → Settled (entry q.nodes 0 + 1) n.sets n.own (paid (o h)) taken free q.prices
+    done : {taken : List ℕ} {free : ℕ} → Cheapest (entry q.nodes 0 + 1) n.sets n.own (paid (o h)) taken free q.prices
         → Seated (o h).nodes.now.own 64 (c.args.root + 1) taken × Priced (c.args.root + 1) (o h).nodes.now.sets (o h).nodes.now.own (paid (o h)) taken free q.prices
     done {taken} {free} m =
         let e = ap (λ (t : List ℕ). entry t 0) raised.stays.nodes ∙ (searched h).root_node in
-        let m' = subst (λ (r : ℕ). Settled (r + 1) (o h).nodes.now.sets (o h).nodes.now.own (paid (o h)) taken free q.prices) e
-        (subst (λ (n : Nodes). Settled (entry q.nodes 0 + 1) n.sets n.own (paid (o h)) taken free q.prices) same m) in
+        let m' = subst (λ (r : ℕ). Cheapest (r + 1) (o h).nodes.now.sets (o h).nodes.now.own (paid (o h)) taken free q.prices) e
+        (subst (λ (n : Nodes). Cheapest (entry q.nodes 0 + 1) n.sets n.own (paid (o h)) taken free q.prices) same m) in
         (m'.seated, settled_priced (turn h) (searched h) (ended h) raised m')
 
   free_end : end < 64 → bit (s h).free end ≡ true
