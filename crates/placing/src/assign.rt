@@ -44,7 +44,8 @@ impl<'a> Seats<'a> {
             self.move_back(paths, end);
         } else if paths.home_by != 0 {
             let step = usize::from(paths.home_by);
-            self.leave(usize::from(paths.nodes[step]));
+            let holder = usize::from(paths.nodes[step]);
+            self.leave(holder);
             self.move_back(paths, paths.labels[step]);
         }
         Some(())

@@ -17,7 +17,7 @@ use Rattle.placing.specs.Paths.{paid, far_of, by_of, Turn, Searched, Ended, Rais
 use Rattle.placing.proofs.Reaching.{by_home}
 use Rattle.placing.proofs.Tracing.{raising, trace, opening, settled_home, leaver_few, leaver_step, opening_home, settled_priced}
 use Rattle.placing.proofs.seats.Seats.place_root.Goals as goal
-use Rattle.placing.proofs.seats.Seats.place_root.Goals.{In_ok-end, After-raise, After-from-step, After-from, After-leave}
+use Rattle.placing.proofs.seats.Seats.place_root.Goals.{In_ok-end, After-raise, After-from-step, After-from-holder, After-leave}
 
 -- the search
 module _ (c : In_ok-end) where
@@ -122,8 +122,8 @@ module _ (c : After-from-step) where
   step_few : c.from-step.result < 64
   step_few = leaver_step (turn k) (searched k) (ended k) (raised y) (last y c.if-end-lt64.false) by some
 
-node : (c : After-from) → c.from.result ≡ entry c.find_end.new.self.nodes c.from-step.result
-node c = c.from.ensures ∙ ap (λ (t : List ℕ). entry t c.from-step.result) c.raise.ensures.stays.nodes
+node : (c : After-from-holder) → c.from-holder.result ≡ entry c.find_end.new.self.nodes c.from-step.result
+node c = c.from-holder.ensures ∙ ap (λ (t : List ℕ). entry t c.from-step.result) c.raise.ensures.stays.nodes
 
 pub bounds-paths-step : goal.bounds-paths-step
 bounds-paths-step c = step_few (goal.at.bounds-paths-step c).After-from-step
@@ -135,15 +135,15 @@ pub leave-requires : goal.leave-requires
 leave-requires c =
     let x = (goal.at.leave-requires c).After-from-step in
     let t = k x in
-    subst (λ (u : ℕ). u < 64) (sym (node (goal.at.leave-requires c).After-from)) (leaver_few (turn t) (searched t) (ended t) (raised (y x)) (last (y x) c.if-end-lt64.false) (by x) (some x))
+    subst (λ (u : ℕ). u < 64) (sym (node (goal.at.leave-requires c).After-from-holder)) (leaver_few (turn t) (searched t) (ended t) (raised (y x)) (last (y x) c.if-end-lt64.false) (by x) (some x))
 
 -- it left its label
 module _ (c : After-leave) where
   abbrev f : After-from-step
   f = (goal.at.After-leave c).After-from-step
 
-  abbrev g : After-from
-  g = (goal.at.After-leave c).After-from
+  abbrev g : After-from-holder
+  g = (goal.at.After-leave c).After-from-holder
 
   nodes_same : c.leave.new.self.nodes.now ≡ c.args.offers.now.nodes.now
   nodes_same = c.leave.ensures.same ∙ c.requires.0
