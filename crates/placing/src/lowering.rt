@@ -18,18 +18,16 @@ pub(crate) struct Terms {
     pub end: usize,
 }
 
-// One more than the last node that has 255, and 0 where none has it.
+// Up to where nodes may have 255: the end of all if some have it, and else 0.
 fn owners_end(nodes: &Nodes) -> usize
     ensures { Owned nodes.now.count nodes.now.own result }
 {
-    let mut end = 0;
-    for u in 0..nodes.count {
-        let next = u + 1;
-        if nodes.own[u] {
-            end = next;
-        }
+    let mut some = false;
+    // Kept: all are joined, and the first found is no way out, as many are then taken at a time.
+    for own in &nodes.own {
+        some |= *own;
     }
-    end
+    if some { nodes.count } else { 0 }
 }
 
 impl<'a> Seats<'a> {
@@ -40,8 +38,10 @@ impl<'a> Seats<'a> {
         ensures all { (w : ℕ) → u < w → w < self.now.nodes.now.count → flag self.now.nodes.now.own w ≡ true → entry self.now.taken w < 64 → bit result (entry self.now.taken w) ≡ true }
     {
         let mut loose = 0;
-        for w in u + 1..end {
-            if self.nodes.own[w] {
+        // Kept: from 0 on, so that where none has 255 the loop costs one comparison.
+        for w in 0..end {
+            let leaves = (w > u) & self.nodes.own[w];
+            if leaves {
                 loose = with_label(loose, self.taken[w]);
             }
         }

@@ -1,9 +1,9 @@
--- `owners_end` meets its contract: of the nodes so far those that have 255 are below the end.
+-- `owners_end` meets its contract: where none has 255 so far, each flag so far is false.
 use mathlib.Core.Path.{◌≡◌}
 use mathlib.Core.Bool.{false}
-use Prim.Native.Nat.{ℕ, ◌≤◌, ◌<◌}
+use Prim.Native.Nat.{ℕ, ◌<◌}
 use Rattle.placing.specs.Words.{flag}
 use Rattle.placing.proofs.lowering.owners_end.Given as goal
 
-abbrev pub invariant-loop-u : goal.invariant-loop-u
-invariant-loop-u l = (l.end ≤ l.u) × ((w : ℕ) → w < l.u → l.end ≤ w → flag l.nodes.own w ≡ false)
+abbrev pub invariant-loop-own : goal.invariant-loop-own
+invariant-loop-own l = l.some ≡ false → (w : ℕ) → w < l.own-index → flag l.nodes.own w ≡ false
