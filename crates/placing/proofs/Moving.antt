@@ -228,33 +228,3 @@ module _ {sets : List ℕ} {own : List Bool} {taken : List ℕ} {free start befo
         (v.left w);
     kept = λ x h q. r.kept x h (⊎_elim (λ (w, g, e). ⊎_elim (λ f. inl (w, g, f ∙ e)) (λ (b, c, f). inr (sym e ∙ c)) (v.left w)) (λ e. inr e) q);
   }
-
--- a label of `start` is a goal: the root takes it
-module _ {sets taken : List ℕ} (goals : ℕ) {start before root : ℕ} (a : Asked sets taken start before root) (fit : start < 2 ^ 64) (z : bit_and start goals ≡ 0 → ⊥) {l : ℕ} (q : l ≡ count_trailing_zeros 64 (bit_and start goals)) where
-  begins : bit start l ≡ true
-  begins = ap (bit start) q ∙ (both_bits start goals fit z).0
-
-  pub once_small : l < 64
-  once_small = bit_small start l fit begins
-
-  pub once_met : bit goals l ≡ true
-  once_met = ap (bit goals) q ∙ (both_bits start goals fit z).1
-
-  pub once_has : bit (entry sets root) l ≡ true
-  once_has = (a.labels l begins).0
-
-  pub once_outside : bit before l ≡ false
-  once_outside = (a.labels l begins).1
-
-  pub once_rooted : {own : List Bool} {taken' : List ℕ} → length taken ≡ 64 → taken' ≡ set taken root l → Rooted own taken start before root l taken'
-  once_rooted {own} {taken'} long e = subst (Rooted own taken start before root l) (sym e) (record {
-    rooted = rw at begins;
-    stays = λ w d. inl (elsewhere w d);
-    kept = λ x h g. by-same x l (λ y. (root, a.node, at ∙ sym y)) (λ y. ⊎_elim (λ (w, f, b). (w, f, elsewhere w (λ n. let m = ap (entry taken) n in omega (arith, a.unplaced)) ∙ b)) (λ b. absurd (y b)) g);
-  })
-    where
-      at : entry (set taken root l) root ≡ l
-      at = get_or-set_same taken root l 0 (omega (arith, a.node, long))
-
-      elsewhere : (w : ℕ) → (w ≡ root → ⊥) → entry (set taken root l) w ≡ entry taken w
-      elsewhere w d = get_or-set_other taken root w l 0 d

@@ -169,6 +169,14 @@ no_both a b l z e = fails (bit b l) (λ f. differ (and_both e f) (sym (bit_and_l
 
 module _ {reach : List ℕ} {free start before : ℕ} {by words : List ℕ} (size_by : length by ≡ 64) (size_words : length words ≡ 64) (fit : start < 2 ^ 64)
     (begins : (l : ℕ) → bit start l ≡ true → bit before l ≡ false) where
+  -- a label from which it begins is met
+  pub searching_begun : (bit_and start free ≡ 0 → ⊥) → Met reach free start before by words 0 (count_trailing_zeros 64 (bit_and start free))
+  searching_begun z = record {
+    trail = trail_none size_by size_words fit begins;
+    met = let l = count_trailing_zeros 64 (bit_and start free) in seen_begin start words l ∙ (both_bits start free fit z).0;
+    free_label = (both_bits start free fit z).1;
+  }
+
   pub searching_none : bit_and start free ≡ 0 → before < 2 ^ 64 → Searching reach free start before by words 0 (bit_or before start) (queue start 0)
   searching_none z fit-before = record {
     trail = trail_none size_by size_words fit begins;

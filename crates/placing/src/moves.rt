@@ -5,7 +5,7 @@ ghost use Rattle.placing.specs.Words.{Asked, Aimed, Met, Rooted, Ended, Vacated}
 
 use crate::search::{Meeting, Steps};
 use crate::seats::Seats;
-use crate::words::{has, lowest};
+use crate::words::has;
 
 impl<'a> Seats<'a> {
     // The node that takes the label, if one does, leaves it.
@@ -57,13 +57,6 @@ impl<'a> Seats<'a> {
         ensures placed { IfOk result (λ _. (met : ℕ) × (bit goals met ≡ true) × Rooted self.old.nodes.now.own self.old.taken start before root met self.new.taken) }
         ensures barred { IfErr result (λ seen. (self.new.taken ≡ self.old.taken) × Ended self.old.reach goals start before seen) }
     {
-        let met = start & goals;
-        if met != 0 {
-            let l = lowest(met);
-            self.vacate(l);
-            self.give(root, l);
-            return Ok(());
-        }
         let met = self.search(goals, start, before, steps)?;
         self.vacate(met.label);
         self.shift(steps, met, root);

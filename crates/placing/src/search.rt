@@ -1,6 +1,5 @@
 // The search for a label, layer by layer.
 ghost use Rattle.std.specs.Prelude.{◌≡◌, true, false, ℕ, MatchResult};
-ghost use Rattle.std.specs.Int.Bits.{bit_and};
 ghost use Rattle.integers.specs.Words.{bit};
 ghost use Rattle.placing.specs.Words.{Met, Ended};
 
@@ -33,7 +32,7 @@ pub(crate) struct Meeting {
 }
 
 impl<'a> Seats<'a> {
-    // Goes from the labels of `start`, none of which is of `goals`, layer by layer to one that is. Labels of `before` are passed over. Where none is met, the labels seen.
+    // Goes from the labels of `start` layer by layer to one of `goals`, after no step if one of them is. Labels of `before` are passed over. Where none is met, the labels seen.
     pub(crate) fn search(
         &self,
         goals: u64,
@@ -41,9 +40,16 @@ impl<'a> Seats<'a> {
         before: u64,
         steps: &mut Steps,
     ) -> Result<Meeting, u64>
-        requires { (bit_and start goals ≡ 0) × ((l : ℕ) → bit start l ≡ true → bit before l ≡ false) }
+        requires { (l : ℕ) → bit start l ≡ true → bit before l ≡ false }
         ensures { MatchResult result (λ met. Met self.now.reach goals start before steps.new.by steps.new.words met.count met.label) (λ seen. Ended self.now.reach goals start before seen) }
     {
+        let begun = start & goals;
+        if begun != 0 {
+            return Ok(Meeting {
+                label: lowest(begun),
+                count: 0,
+            });
+        }
         let mut seen = before | start;
         let mut layer = start;
         let mut next = 0u64;

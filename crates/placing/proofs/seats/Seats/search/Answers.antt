@@ -9,7 +9,7 @@ use lib.ListN.{set}
 use Rattle.integers.specs.Words.{bit, Words}
 use Rattle.integers.proofs.Places.{left_true}
 use Rattle.placing.specs.Words.{Met}
-use Rattle.placing.proofs.Searching.{queue, newly, layers_none, in_layer, searching_none, searching_met, turn_small, turn_few, turn_same, turn_next, turn_last}
+use Rattle.placing.proofs.Searching.{queue, newly, layers_none, in_layer, searching_none, searching_begun, searching_met, turn_small, turn_few, turn_same, turn_next, turn_last}
 use Rattle.placing.proofs.seats.Seats.search.Goals as goal
 use Rattle.placing.proofs.seats.Seats.search.Goals.{After-lowest-l, At-loop-layer}
 
@@ -41,7 +41,10 @@ module _ (c : After-lowest-l) where
 
 pub loop-layer-init : goal.loop-layer-init
 loop-layer-init c =
-    (searching_none (search rules) (search rules) c.ranges.start.fits c.requires.1 c.requires.0 c.ranges.before.fits, layers_none c.args.start c.ranges.start.fits)
+    (searching_none (search rules) (search rules) c.ranges.start.fits c.requires c.if-begun-ne0.false c.ranges.before.fits, layers_none c.args.start c.ranges.start.fits)
+
+pub returns-then-begun-ne0 : goal.returns-then-begun-ne0
+returns-then-begun-ne0 c = rw c.lowest.ensures (searching_begun (search rules) (search rules) c.ranges.start.fits c.requires c.if-begun-ne0.true)
 
 pub returns-then-met-ne0 : goal.returns-then-met-ne0
 returns-then-met-ne0 c =
