@@ -8,18 +8,17 @@ use Prim.Native.Nat.{ℕ, zero, suc, ◌-◌, ◌^◌, ◌≤◌, ◌<◌}
 use native.Mathlib.Omega.{arith}
 use borrow.Author.Tests.{ne_eqb, eq-eqb}
 use Rattle.std.proofs.lemmas.List.{set-set}
-use lib.Bits.{bit_and, bit_xor}
+use lib.Bits.{bit_xor}
 use lib.Dec.{eqb}
-use lib.Count.{count_trailing_zeros}
 use lib.ListN.{length, set}
 use lib.Seq.{get_or-set_same, get_or-set_other}
 use Rattle.integers.specs.Words.{bit}
 use Rattle.integers.proofs.Places.{or_split, left_true, right_true}
-use Rattle.integers.proofs.Words.{bit_small, bit_dropped, bit_kept}
+use Rattle.integers.proofs.Words.{bit_dropped, bit_kept}
 use Rattle.assignment.proofs.Counts.{differ, by-same}
 use Rattle.placing.specs.Words.{entry, seen_by, Trail, Met, Joined, Linked, Asked, Aimed, Rooted, Vacated}
 use Rattle.placing.proofs.Linking.{free_held, held_taken}
-use Rattle.placing.proofs.Searching.{seen_later, seen_outside, both_bits, or_none_lem}
+use Rattle.placing.proofs.Searching.{seen_later, seen_outside, or_none_lem}
 
 -- ---- labels seen
 
