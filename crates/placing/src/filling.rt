@@ -1,7 +1,7 @@
 // Another node takes a label that may not stay free.
-ghost use Rattle.std.specs.Prelude.{◌≡◌, true, false, ℕ, ◌+◌, ◌≤◌, ◌<◌, ◌^◌, ◌⊎◌, IfOk, IfErr, set};
+ghost use Rattle.std.specs.Prelude.{◌≡◌, true, false, ℕ, ◌≤◌, ◌<◌, ◌^◌, IfOk, IfErr, set};
 ghost use Rattle.integers.specs.Words.{bit};
-ghost use Rattle.placing.specs.Words.{entry, flag, Holds, Aimed, Rooted, Below, Out, Passed, Spent};
+ghost use Rattle.placing.specs.Words.{entry, Aimed, Rooted, Below, Out, Passed, Spent};
 
 use crate::lowering::Terms;
 use crate::search::Steps;

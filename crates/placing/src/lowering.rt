@@ -1,8 +1,8 @@
 // The smallest placing: node by node, the lowest label with which all nodes can be placed, those below staying where they are. Some labels may have to be taken.
-ghost use Rattle.std.specs.Prelude.{◌≡◌, true, false, ℕ, ◌+◌, ◌≤◌, ◌<◌, ◌^◌, IfOk, IfErr};
+ghost use Rattle.std.specs.Prelude.{◌≡◌, true, false, ℕ, ◌≤◌, ◌<◌};
 ghost use Rattle.assignment.specs.First.{First};
 ghost use Rattle.integers.specs.Words.{bit};
-ghost use Rattle.placing.specs.Words.{entry, flag, Full, Seated, Holds, Aimed, Below, Lowered, Lowest, Owned, Out, Tried};
+ghost use Rattle.placing.specs.Words.{entry, flag, Full, Seated, Aimed, Lowered, Lowest, Owned, Tried};
 
 use crate::filling::must_stay;
 use crate::search::Steps;
@@ -10,7 +10,7 @@ use crate::seats::Seats;
 use crate::tables::Nodes;
 use crate::words::{bit_of, has_below, lowest, with_label};
 
-// What a node is lowered under: the labels of the nodes below it stay theirs; labels that may stay free; and the nodes that have 255 are below `end`.
+// What a node is lowered under: the labels of the nodes below it, which stay theirs; the labels that may stay free; and an end below which all nodes with 255 are.
 #[derive(Drop)]
 pub(crate) struct Terms {
     pub closed: u64,
@@ -18,12 +18,12 @@ pub(crate) struct Terms {
     pub end: usize,
 }
 
-// Up to where nodes may have 255: the end of all if some have it, and else 0.
+// An end below which all nodes with 255 are: 0 if none has it, else that of all nodes.
 fn owners_end(nodes: &Nodes) -> usize
     ensures { Owned nodes.now.count nodes.now.own result }
 {
     let mut some = false;
-    // Kept: all are joined, and the first found is no way out, as many are then taken at a time.
+    // Kept: no `any`, as a loop without a way out takes many at a time.
     for own in &nodes.own {
         some |= *own;
     }

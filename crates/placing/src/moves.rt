@@ -57,7 +57,7 @@ impl<'a> Seats<'a> {
         ensures placed { IfOk result (λ _. (met : ℕ) × (bit goals met ≡ true) × Rooted self.old.nodes.now.own self.old.taken start before root met self.new.taken) }
         ensures barred { IfErr result (λ seen. (self.new.taken ≡ self.old.taken) × Ended self.old.reach goals start before seen) }
     {
-        let met = self.search(goals, start, before, steps)?;
+        let met = self.search(start, before, goals, steps)?;
         self.vacate(met.label);
         self.shift(steps, met, root);
         Ok(())

@@ -35,9 +35,9 @@ impl<'a> Seats<'a> {
     // Goes from the labels of `start` layer by layer to one of `goals`, after no step if one of them is. Labels of `before` are passed over. Where none is met, the labels seen.
     pub(crate) fn search(
         &self,
-        goals: u64,
         start: u64,
         before: u64,
+        goals: u64,
         steps: &mut Steps,
     ) -> Result<Meeting, u64>
         requires { (l : ℕ) → bit start l ≡ true → bit before l ≡ false }
