@@ -49,6 +49,8 @@ impl<'a> Seats<'a> {
     }
 
     // Node `u`, which takes none, takes the lowest of its labels from which a search meets one of `goals`, if there is one. No label of `before` is touched.
+    // Kept: inlined, as `chain` is.
+    #[inline(always)]
     fn settle(&mut self, u: usize, goals: u64, before: u64, steps: &mut Steps)
         requires { (u < 64) × (64 ≤ entry self.old.taken u) × Aimed self.old.nodes.now.own self.old.taken goals before }
         ensures same { self.new.nodes.now ≡ self.old.nodes.now }

@@ -44,6 +44,8 @@ impl<'a> Seats<'a> {
 
     // Places the root at a label of `start`, if others can shift so that one of `goals` is taken: one that is free, or that its holder leaves for 255.
     // Else no node moves, and the answer is the labels seen. No label of `before` is touched. The search goes in `steps`.
+    // Kept: inlined, as the compiler else calls it from each of its places, and a placing takes up to a twentieth longer.
+    #[inline(always)]
     pub(crate) fn chain(
         &mut self,
         start: u64,
