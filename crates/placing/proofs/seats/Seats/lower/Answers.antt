@@ -1,20 +1,29 @@
 -- `lower` meets its contract: whether or not another node takes the label that u leaves, what the searches bar no placing gives u.
 use Prim.Native.Nat.{ℕ, ◌<◌}
 use mathlib.Core.Path.{◌≡◌, sym, ap, ◌∙◌, subst, transport}
-use mathlib.Core.Bool.{true}
+use mathlib.Core.Bool.{true, false}
 use mathlib.Core.List.{List}
 use native.Mathlib.Omega.{arith}
 use lib.Bits.{bit_or}
 use Rattle.integers.specs.Words.{bit}
 use Rattle.placing.specs.declared.seats.Seats.{Seats}
-use Rattle.placing.specs.Words.{entry, flag, Linked, Out, Spent, Tried}
+use Rattle.placing.specs.Words.{entry, flag, Below, Linked, Out, Spent, Tried}
 use Rattle.placing.proofs.Linking.{linked_as}
-use Rattle.placing.proofs.Settling.{lowest_stays, left_same, left_out, out_idle, aimed_open, lowest_open, lowest_owed}
+use Rattle.placing.proofs.Settling.{lowest_stays, left_same, left_out, under_same, out_idle, aimed_open, lowest_open, lowest_owed}
 use Rattle.placing.proofs.seats.Seats.lower.Goals as goal
 use Rattle.placing.proofs.seats.Seats.lower.Goals.{After-loose-loose, then-owed+in_default, else-owed}
 
 pub returns-then-not-has_below-clause-lowest : goal.returns-then-not-has_below-clause-lowest
 returns-then-not-has_below-clause-lowest c = let (v, below, _) = c.requires in lowest_stays c.args.self.now.linked v below (c.has_below.ensures c.if-not-has_below.true)
+
+pub fill-requires : goal.fill-requires
+fill-requires c =
+    let s = c.args.self.now in let u = c.args.u in let idle = c.args.terms.now.idle in let (v, below, _) = c.requires in
+    let e = c.leave.ensures.same in let f = c.leave.ensures.taken in
+    let (small, asked) = c.must_stay-owed.ensures.stays c.if-owed.true in
+    transport (λ j. (u < (sym e j).count) × (entry s.taken u < 64) × (bit idle (entry s.taken u) ≡ false)
+    × Out (sym e j).count (sym e j).own idle (entry s.taken u) u (sym f j) × Below c.args.terms.now.closed u (sym f j))
+    (below, small, asked, left_out s.linked v below, under_same s.linked v below (linked_as (ap (λ n. n.sets) e) f c.leave.new.self.linked) (left_same s.linked v below))
 
 pub returns-in-Err-clause-lowest : goal.returns-in-Err-clause-lowest
 returns-in-Err-clause-lowest c =
