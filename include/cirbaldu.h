@@ -44,11 +44,11 @@ uint8_t cirbaldu_open(const uint8_t *sheet, size_t sheet_len,
                       int64_t *edges, size_t edges_len,
                       uint8_t *incumbent, size_t incumbent_len);
 
-/* Runs a list of records, of 5 bytes each, on the four buffers.
+/* Runs a list of records, of 5 bytes each and of kinds 1 to 6, on the four buffers.
  * Returns the refusal: 1 to 11 or 15 ahead of the first record, when nothing but counts is written; 12 or 13
  * at a record, when the buffers are as the records before it left them. 8 is for the four buffers and for
  * counts. 15 is one of the sheet's, and so comes ahead of 8 to 11.
- * counts, with exactly 2 places: the records done and the roundings stuck, so far when refused. With another
+ * counts, with exactly 2 places: the records done and the roundings stuck (kinds 5 and 6), so far when refused. With another
  * number of places nothing is run and nothing is written. */
 uint8_t cirbaldu_run(const uint8_t *sheet, size_t sheet_len,
                      const uint8_t *records, size_t records_len,
