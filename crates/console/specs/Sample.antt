@@ -13,7 +13,7 @@ use Rattle.rules.specs.Places.{end_place, node_places, label_places, edge_places
 use Rattle.rules.specs.Costs.{in_range, none_kept, opened, node_least, edge_least, label_least, bound, chosen, chosen_cell, cost_of}
 use Rattle.rules.specs.Messages.{to_label, to_edge, deltas, filled}
 use Rattle.rules.specs.Rounding.{best_from, best, free, key, choice, round_below, adopt}
-use Rattle.rules.specs.Assigned.{node_sum, assignment, candidate}
+use Rattle.rules.specs.Assigned.{assignment, candidate}
 use Rattle.rules.specs.Run.{proceed, rounded, kind_of, records, legal_share, legal_edge, legal_position, legal_message, checked, effect, run, run_list}
 use Rattle.rules.specs.Matchings.{is_matching, passing, joined, labellings_from, labellings, matchings}
 use Rattle.rules.specs.Calls.{lengths_ok, incumbent_ok, lent_checks, lent_refusal, run_refusal, run_of, told, report_of}
@@ -44,5 +44,5 @@ runs =
     ∷ []
 
 pub runs_hold : map (λ r. printed r.sheet r.list) runs ≡ map (λ r. ascii r.text) runs
-unfolding runs range among select others tabulate every total offset only below first_failure within min_ℤ least_of least_from to_even nearest share excess amount exclusive usable first table_size table cell end_place node_places label_places edge_places usable_places end_places instance_of rises mark_at short_enough marked counts_ok degrees_fit degrees_ok ends_fit ends_ok cells_ok length_ok labels_ok prices_ok usable_ok checks refusal_of in_range none_kept opened node_least edge_least label_least bound chosen chosen_cell cost_of to_label to_edge deltas filled best_from best free key choice round_below passing joined labellings_from labellings matchings node_sum assignment candidate adopt bind proceed rounded kind_of records legal_share legal_edge legal_position legal_message checked effect run run_list lengths_ok is_matching incumbent_ok lent_checks lent_refusal run_refusal run_of told report_of digits_in decimal signed line refused_line count_lines kept_lines bound_lines at_records stop_line report_text text_of ran_text printed
+unfolding runs range among select others tabulate every total offset only below first_failure within min_ℤ least_of least_from to_even nearest share excess amount exclusive usable first table_size table cell end_place node_places label_places edge_places usable_places end_places instance_of rises mark_at short_enough marked counts_ok degrees_fit degrees_ok ends_fit ends_ok cells_ok length_ok labels_ok prices_ok usable_ok checks refusal_of in_range none_kept opened node_least edge_least label_least bound chosen chosen_cell cost_of to_label to_edge deltas filled best_from best free key choice round_below passing joined labellings_from labellings matchings assignment candidate adopt bind proceed rounded kind_of records legal_share legal_edge legal_position legal_message checked effect run run_list lengths_ok is_matching incumbent_ok lent_checks lent_refusal run_refusal run_of told report_of digits_in decimal signed line refused_line count_lines kept_lines bound_lines at_records stop_line report_text text_of ran_text printed
 runs_hold = refl

@@ -6,7 +6,7 @@ use Rattle.integers.specs.Places.{tabulate}
 use Rattle.integers.proofs.Places.{if-true, if-false, length-tabulate, get_d_tabulate}
 use Rattle.instance.specs.Instance.{Instance}
 use Rattle.rules.specs.Costs.{Costs, Buffers, Labelling, costs_of}
-use Rattle.rules.specs.Assigned.{Way, in_turn, at_once, node_sum, assignment, candidate}
+use Rattle.rules.specs.Assigned.{Way, in_turn, at_once, assignment, candidate}
 use Rattle.rules.specs.Run.{refused, rounding, rounded, effect}
 use Rattle.rules.proofs.Assigned.{candidate_matching}
 use Rattle.placing.specs.Assigning.{rounded_by}
@@ -82,7 +82,7 @@ left_settled I b (some x) = ap (λ (z : Buffers). settle z 0 0) (sym (adopt_is I
 
 -- a candidate hangs on no label cost
 candidate_costs : (I : Instance) (b : Buffers) (w : Way) → candidate I (costs_of b) w ≡ candidate I (costs_by b.nodes b.edges) w
-unfolding candidate assignment node_sum
+unfolding candidate assignment
 candidate_costs I b in_turn = round_costs I b
 candidate_costs I b at_once = refl
 

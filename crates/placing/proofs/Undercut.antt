@@ -17,8 +17,8 @@ use Rattle.integers.proofs.Places.{by-test}
 use Rattle.integers.proofs.Totals.{total_ext}
 use Rattle.instance.specs.Instance.{Instance, first}
 use Rattle.instance.specs.Readable.{Proper}
-use Rattle.rules.specs.Costs.{Costs, chosen, Matching}
-use Rattle.rules.specs.Assigned.{node_sum, assignment}
+use Rattle.rules.specs.Costs.{Costs, chosen, node_sum, Matching}
+use Rattle.rules.specs.Assigned.{assignment}
 use Rattle.rules.proofs.Assigned.{Assigns, assignment_none, assignment_is}
 use Rattle.assignment.specs.Rows.{Rows, Node, Free}
 use Rattle.assignment.specs.First.{First}
@@ -176,11 +176,11 @@ module _ {I : Instance} (proper : Proper I) (few : I.node_count ≤ 64) {sets : 
     m = f.one.placed
 
     sum_here : node_sum I c (ranks I.node_count sets q) ≡ cost_of J pays q
-    unfolding node_sum cost_of chosen
+    unfolding cost_of chosen
     sum_here = total_ext I.node_count _ (λ u. pays u (q u)) (λ u h. ap (λ (i : ℕ). c.node (first I u + i)) (position_is I (rank_within proper laid m) u h))
 
     sum_there : {y : List ℕ} → Matching I y → node_sum I c y ≡ cost_of J pays (λ u. I.label (chosen I y u))
-    unfolding node_sum cost_of chosen
+    unfolding cost_of chosen
     sum_there {y} n = total_ext I.node_count _ (λ u. pays u (I.label (chosen I y u))) (λ u h. ap (λ (i : ℕ). c.node (first I u + i)) (sym (matching_rank proper laid n u h)))
 
     pub first_assigns : Assigns I c (ranks I.node_count sets q)

@@ -7,10 +7,10 @@ use mathlib.Core.Option.{some, none, Option}
 use Prim.Native.Nat.{ℕ}
 use lib.Signed.{◌≤ℤ◌}
 use Rattle.instance.specs.Instance.{Instance}
-use Rattle.rules.specs.Costs.{Costs, Matching}
+use Rattle.rules.specs.Costs.{Costs, node_sum, Matching}
 use Rattle.rules.specs.Rounding.{best}
 use Rattle.rules.specs.Matchings.{matchings, Before}
-use Rattle.rules.specs.Assigned.{Way, in_turn, at_once, node_sum, assignment, candidate}
+use Rattle.rules.specs.Assigned.{Way, in_turn, at_once, assignment, candidate}
 use Rattle.rules.proofs.Ordered.{best_mem, best_none, best_foremost}
 use Rattle.rules.proofs.Matchings.{Less, less_trans, matchings_sorted, matching_mem, mem_matching, before, antisymm, none_is, none_matching}
 use Rattle.rules.proofs.Rounding.{round_matching}
