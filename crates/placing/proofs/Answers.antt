@@ -25,6 +25,7 @@ use Rattle.assignment.specs.First.{Agree, Smaller, First}
 use Rattle.assignment.proofs.Counts.{differ, by-same, some_at, at_some, true_but, pigeonhole}
 use Rattle.placing.specs.Placing.{member, labelled, Places, Obstruction}
 use Rattle.placing.specs.Words.{entry, opens, rows_of, All, rank, Laid, Blocked}
+use Rattle.placing.proofs.Listing.{laid_listed}
 use Rattle.placing.proofs.Slots.{Kinds, opens_kinds, slot_label, same_slot, same_label}
 
 -- ---- the labels of a set of nodes
@@ -108,10 +109,7 @@ module _ {I : Instance} (proper : Proper I) {sets : List ℕ} {own : List Bool} 
 
   -- a label of u stands at its rank
   at_rank : (u l : ℕ) → u < I.node_count → opens sets own u l ≡ true → (rank (entry sets u) l < I.degree u) × (I.label (first I u + rank (entry sets u) l) ≡ l)
-  at_rank u l h a =
-      let (k, j, e) = laid.only u l h a in
-      let r : rank (entry sets u) l ≡ k = ap (rank (entry sets u)) (sym e) ∙ laid.ranks u k h j in
-      (omega arith, ap (λ (i : ℕ). I.label (first I u + i)) r ∙ e)
+  at_rank = (laid_listed laid).stands
 
   pub rank_few : (u l : ℕ) → u < I.node_count → opens sets own u l ≡ true → rank (entry sets u) l < 16
   rank_few u l h a = let (j, _) = at_rank u l h a in omega (arith, proper.few u h)

@@ -14,8 +14,8 @@ pub mod Barring
 pub mod Blocking
 pub mod Seating
 pub mod Settling
-pub mod Answers
 pub mod Listing
+pub mod Answers
 pub mod Offering
 pub mod TightLaws
 pub mod SeatLaws
