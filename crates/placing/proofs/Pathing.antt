@@ -3,7 +3,7 @@
 use mathlib.Core.Path.{◌≡◌, refl, sym, ap, ◌∙◌, subst}
 use mathlib.Core.Bool.{true, false, cond}
 use mathlib.Core.List.{List}
-use mathlib.Core.Logic.{inl, inr, ⊎_elim}
+use mathlib.Core.Logic.{◌⊎◌, inl, inr, ⊎_elim}
 use Prim.Native.Nat.{ℕ, zero, suc, ◌+◌, ◌*◌, ◌^◌, ◌≤◌, ◌<◌}
 use native.Mathlib.Omega.{arith}
 use borrow.Author.Tests.{eq-eqb, ne_eqb, ltb-true, ltb-false}
@@ -14,7 +14,7 @@ use lib.Signed.{◌≤ℤ◌, ◌<ℤ◌, lt_z}
 use lib.ListN.{length, get_or, set, replicate, get_or-replicate}
 use lib.Seq.{get_or-set_same, get_or-set_other}
 use Rattle.integers.specs.Words.{bit}
-use Rattle.integers.proofs.Words.{bit_zero, bit_dropped, bit_kept}
+use Rattle.integers.proofs.Words.{bit_zero, some_bit, bit_dropped, bit_kept}
 use Rattle.integers.proofs.Places.{by-test, if-true, if-false}
 use Rattle.integers.proofs.Parts.{◌⁺, ◌⁻, linear, parts, add, sub, abs, apart}
 use Rattle.integers.proofs.Order.{le_trans}
@@ -25,7 +25,7 @@ use Rattle.placing.specs.declared.paths.Paths.{Paths}
 use Rattle.placing.specs.declared.seats.Seats.{Seats}
 use Rattle.placing.specs.Words.{entry}
 use Rattle.placing.specs.Priced.{price}
-use Rattle.placing.specs.Paths.{paid, may, way, unmet, far_of, by_of, Kept, Same, Scanned, Nearest, Turn, Gone, Step, Searched}
+use Rattle.placing.specs.Paths.{paid, may, way, unmet, far_of, by_of, Bounded, Kept, Same, Scanned, Nearest, Turn, Gone, Step, Searched}
 use Rattle.placing.proofs.Offering.{paid_within}
 use Rattle.placing.proofs.Reaching.{far_small, far_home, far_else}
 use Rattle.placing.proofs.Slots.{opens-bit}
@@ -65,10 +65,10 @@ module _ {o : Offers} {s : Seats} {prices : List ℤ} {root : ℕ} (t : Turn o s
 
 -- p with the ways of w
 abbrev pub after : Paths → Paths → Paths
-after p w = record { prices = p.prices; far = w.far; by = w.by; labels = p.labels; nodes = p.nodes; step = p.step; waiting = w.waiting; home = w.home; home_by = w.home_by }
+after p w = record { prices = p.prices; far = w.far; by = w.by; labels = p.labels; nodes = p.nodes; step = p.step; waiting = w.waiting; home = w.home; home_by = w.home_by; bound = w.bound; goal = w.goal }
 
 pub after_is : {p w : Paths} → Kept p w → after p w ≡ w
-after_is {p} {w} k = λ j. record { prices = sym k.prices j; far = w.far; by = w.by; labels = sym k.labels j; nodes = sym k.nodes j; step = sym k.step j; waiting = w.waiting; home = w.home; home_by = w.home_by }
+after_is {p} {w} k = λ j. record { prices = sym k.prices j; far = w.far; by = w.by; labels = sym k.labels j; nodes = sym k.nodes j; step = sym k.step j; waiting = w.waiting; home = w.home; home_by = w.home_by; bound = w.bound; goal = w.goal }
 
 module _ {o : Offers} {s : Seats} {p : Paths} {root : ℕ} (t : Turn o s p.prices root) where
   module _ {m : ℕ} (v : Searched o s p root m) where
@@ -129,10 +129,10 @@ module _ {o : Offers} {s : Seats} {p : Paths} {root : ℕ} (t : Turn o s p.price
             (λ y. labels_once i j (omega arith) g (omega arith) k (sym (at_step i x) ∙ e ∙ at_step j y)))
 
     -- the nearest label that waits is as near as any from which no step went
-    pub nearest_all : {l : ℕ} → Nearest p l → far_of p l ≤ℤ p.home → (k : ℕ) → (Gone p k → ⊥) → far_of p l ≤ℤ far_of p k
+    pub nearest_all : {l : ℕ} → Nearest p l → far_of p l ≤ℤ p.bound → (k : ℕ) → (Gone p k → ⊥) → far_of p l ≤ℤ far_of p k
     nearest_all {l} n h k d = by-test (lt_z (far_of p k) unmet)
         (λ z. let met : far_of p k <ℤ unmet = omega linear in
-        ⊎_elim (λ b. ⊎_elim (λ w. n.least k w) (λ g. absurd (d g)) (v.met k b met)) (λ e. let y = far_home p e in omega (linear, y)) (far_else p k met))
+        ⊎_elim (λ w. n.least k w) (λ s. ⊎_elim (λ g. absurd (d g)) (λ y. le_trans h y) s) (v.met k met))
         (λ z. let y = (v.waits l n.small n.waits).0 in omega linear)
 
     -- a way but for the label's price is not long
@@ -211,8 +211,14 @@ module _ {o : Offers} {s : Seats} {p : Paths} {root : ℕ} (t : Turn o s p.price
             (λ (a, n). rw (n.far, n.by) (omega arith, a, refl))
             (r.each k)
 
-        row_after : Searched o s q root (p.step + 1)
-        row_after = record {
+        row_met : (k : ℕ) → far_of q k <ℤ unmet → (bit q.waiting k ≡ true) ⊎ Gone q k ⊎ (q.bound ≤ℤ far_of q k)
+        row_met k z = ⊎_elim
+            (λ e. ⊎_elim (λ w. inl (e.waits ∙ w)) (λ c. inr (⊎_elim inl (λ y. inr (rw e.far (le_trans r.falls y))) c)) (v.met k (rw e.far at z)))
+            (λ (a, n). ⊎_elim inl (λ y. inr (inr (rw n.far y))) n.waits)
+            (r.each k)
+
+        row_after : Bounded s.free q → Searched o s q root (p.step + 1)
+        row_after y = record {
           base = v.base;
           few = v.few;
           root_base = v.root_base;
@@ -227,22 +233,34 @@ module _ {o : Offers} {s : Seats} {p : Paths} {root : ℕ} (t : Turn o s p.price
               (λ e. let (x, y) = v.waits k h (sym e.waits ∙ w) in (rw e.far x, y))
               (λ (a, n). (rw n.far (small k), λ (i, h, g, e). let y = beyond i k h g a in let z = n.less in let w = ap (far_of p) e in omega (linear, w)))
               (r.each k);
-          met = λ k h z. ⊎_elim (λ e. ⊎_elim (λ w. inl (e.waits ∙ w)) inr (v.met k h (rw e.far at z))) (λ (a, n). inl (n.waits h)) (r.each k);
+          met = row_met;
+          bounded = y;
         }
 
-      pub row_more : {w : Paths} → Scanned o p w u b → Searched o s w root (w.step + 1)
-      row_more {w} r =
+      pub row_more : {w : Paths} → Scanned o p w u b → Bounded s.free w → Searched o s w root (w.step + 1)
+      row_more {w} r y =
           let e = after_is r.kept in
-          subst (λ q. Searched o s q root (q.step + 1)) e (row_after w (subst (λ q. Scanned o p q u b) (sym e) r))
+          subst (λ q. Searched o s q root (q.step + 1)) e (row_after w (subst (λ q. Scanned o p q u b) (sym e) r) (subst (Bounded s.free) (sym e) y))
 
 -- ---- the start: at the root, nothing is met
 
-module _ (o : Offers) (s : Seats) (p : Paths) (root : ℕ) (ef : p.far ≡ replicate 64 unmet) (eh : p.home ≡ unmet) (ew : p.waiting ≡ 0) (es : p.step ≡ 0) (en : entry p.nodes 0 ≡ root) where
+module _ (o : Offers) (s : Seats) (p : Paths) (root : ℕ) (ef : p.far ≡ replicate 64 unmet) (eh : p.home ≡ unmet) (eb : p.bound ≡ unmet) (eg : p.goal ≡ 255) (ew : p.waiting ≡ 0) (es : p.step ≡ 0) (en : entry p.nodes 0 ≡ root) where
   none_met : (l : ℕ) → far_of p l <ℤ unmet → ⊥
   none_met l h = ⊎_elim
       (λ z. let y = far_small p z ∙ ap (λ (t : List ℤ). get_or t l (pos 0)) ef ∙ get_or-replicate 64 l unmet (pos 0) z in omega (linear, parts y))
       (λ e. let y = far_home p e ∙ eh in omega (linear, parts y))
       (far_else p l h)
+
+  far_none : (l : ℕ) → unmet ≤ℤ far_of p l
+  far_none l = by-test (lt_z (far_of p l) unmet) (λ z. absurd (none_met l (omega linear))) (λ z. omega linear)
+
+  pub begun_bounded : Bounded s.free p
+  begun_bounded = record {
+    kind = inr eg;
+    goal = eb ∙ sym (far_home p eg ∙ eh);
+    ends = λ l x. let y = far_none l in omega (linear, parts eb);
+    held = λ l b. absurd (some_bit p.waiting l b ew);
+  }
 
   pub begun : Searched o s p root 0
   begun = record {
@@ -255,18 +273,19 @@ module _ (o : Offers) (s : Seats) (p : Paths) (root : ℕ) (ef : p.far ≡ repli
     covered = λ i l h. absurd (omega arith);
     found = λ l h. absurd (none_met l h);
     waits = λ l h b. absurd (differ b (ap (λ (w : ℕ). bit w l) ew ∙ bit_zero l));
-    met = λ l h z. absurd (none_met l z);
+    met = λ l z. absurd (none_met l z);
+    bounded = begun_bounded;
   }
 
   -- and the root's row
-  pub begun_row : Turn o s p.prices root → {w : Paths} → Scanned o p w root (pos 0) → Searched o s w root (w.step + 1)
+  pub begun_row : Turn o s p.prices root → {w : Paths} → Scanned o p w root (pos 0) → Bounded s.free w → Searched o s w root (w.step + 1)
   unfolding begun
-  begun_row t {w} r = row_more t begun (sym es) (subst (λ u. Scanned o p w u (pos 0)) (sym (ap (entry p.nodes) es ∙ en)) r)
+  begun_row t {w} r y = row_more t begun (sym es) (subst (λ u. Scanned o p w u (pos 0)) (sym (ap (entry p.nodes) es ∙ en)) r) y
 
 -- ---- a step more
 
 module _ {o : Offers} {s : Seats} {p : Paths} {root : ℕ} (t : Turn o s p.prices root) (v : Searched o s p root (p.step + 1))
-    {l : ℕ} (n : Nearest p l) (f : bit s.free l ≡ false) (home : far_of p l ≤ℤ p.home) where
+    {l : ℕ} (n : Nearest p l) (f : bit s.free l ≡ false) (home : far_of p l ≤ℤ p.bound) where
   abbrev S : ℕ
   S = p.step + 1
 
@@ -306,7 +325,7 @@ module _ {o : Offers} {s : Seats} {p : Paths} {root : ℕ} (t : Turn o s p.price
 
   -- the tables then
   abbrev next : Paths
-  next = record { prices = p.prices; far = p.far; by = p.by; labels = set p.labels S l; nodes = set p.nodes S holder; step = S; waiting = bit_xor p.waiting (2 ^ l); home = p.home; home_by = p.home_by }
+  next = record { prices = p.prices; far = p.far; by = p.by; labels = set p.labels S l; nodes = set p.nodes S holder; step = S; waiting = bit_xor p.waiting (2 ^ l); home = p.home; home_by = p.home_by; bound = p.bound; goal = p.goal }
 
   far_next : (k : ℕ) → far_of next k ≡ far_of p k
   unfolding far_of
@@ -315,6 +334,14 @@ module _ {o : Offers} {s : Seats} {p : Paths} {root : ℕ} (t : Turn o s p.price
   by_next : (k : ℕ) → by_of next k ≡ by_of p k
   unfolding by_of
   by_next k = refl
+
+  pub bounded_next : Bounded s.free next
+  bounded_next = let b = v.bounded in record {
+    kind = b.kind;
+    goal = b.goal ∙ sym (far_next p.goal);
+    ends = λ k x. rw (far_next k) (b.ends k x);
+    held = λ k w. by-same k l (λ e. ap (bit s.free) e ∙ f) (λ d. b.held k (sym (bit_kept p.waiting l k d) ∙ w));
+  }
 
   module _ (sl : length p.labels ≡ 64) (sn : length p.nodes ≡ 64) where
     room : S < 64
@@ -395,12 +422,13 @@ module _ {o : Offers} {s : Seats} {p : Paths} {root : ℕ} (t : Turn o s p.price
       waits = λ k h w. by-same k l
           (λ e. absurd (differ w (ap (bit (bit_xor p.waiting (2 ^ l))) e ∙ bit_dropped p.waiting l n.waits)))
           (λ d. let (x, y) = v.waits k h (sym (bit_kept p.waiting l k d) ∙ w) in (rw (far_next k) x, λ g. y (gone_back k d g)));
-      met = λ k h z. by-same k l
-          (λ e. inr (S, omega arith, omega arith, label_here ∙ sym e))
-          (λ d. ⊎_elim (λ w. inl (bit_kept p.waiting l k d ∙ w)) (λ g. inr (gone_more k g)) (v.met k h (rw (far_next k) at z)));
+      met = λ k z. by-same k l
+          (λ e. inr (inl (S, omega arith, omega arith, label_here ∙ sym e)))
+          (λ d. ⊎_elim (λ w. inl (bit_kept p.waiting l k d ∙ w)) (λ c. inr (⊎_elim (λ g. inl (gone_more k g)) (λ y. inr (rw (far_next k) y)) c)) (v.met k (rw (far_next k) at z)));
+      bounded = bounded_next;
     }
 
     -- and the holder's row
-    pub stepped_row : {w : Paths} → Scanned o next w holder onward → Searched o s w root (w.step + 1)
+    pub stepped_row : {w : Paths} → Scanned o next w holder onward → Bounded s.free w → Searched o s w root (w.step + 1)
     unfolding stepped
-    stepped_row {w} r = row_more {p = next} t stepped refl (rw (node_here, base_here) r)
+    stepped_row {w} r y = row_more {p = next} t stepped refl (rw (node_here, base_here) r) y

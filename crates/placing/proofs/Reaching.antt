@@ -17,12 +17,13 @@ use Rattle.integers.specs.Words.{bit}
 use Rattle.integers.proofs.Words.{bit_or_lem, bit_power, bit_own}
 use Rattle.integers.proofs.Places.{by-test, if-true, if-false, right_true}
 use Rattle.integers.proofs.Parts.{linear, parts}
+use Rattle.integers.proofs.Order.{le_refl, le_trans}
 use Rattle.assignment.proofs.Counts.{by-same}
 use Rattle.placing.specs.declared.offers.Offers.{Offers}
 use Rattle.placing.specs.declared.paths.Paths.{Paths}
 use Rattle.placing.specs.Words.{entry}
 use Rattle.placing.specs.Priced.{price}
-use Rattle.placing.specs.Paths.{may, way, unmet, by_kind, far_of, by_of, Kept, Same, Nearer, Reached, Scanned}
+use Rattle.placing.specs.Paths.{may, way, unmet, by_kind, far_of, by_of, Exit, Bounded, Kept, Same, Nearer, Reached, Scanned}
 
 -- ---- the two tables by the kind of label
 
@@ -91,35 +92,34 @@ same_self p l = record { far = refl; by = refl; waits = refl }
 -- ---- a way that is not shorter
 
 pub reached_not : (p : Paths) (l : ℕ) {z : ℤ} → far_of p l ≤ℤ z → Reached p p l z
-reached_not p l h = record { kept = kept_self p; others = λ k _. same_self p k; here = inl (same_self p l, h) }
+reached_not p l h = record { kept = kept_self p; falls = le_refl p.bound; others = λ k _. same_self p k; here = inl (same_self p l, h) }
 
 -- ---- a shorter way, to a label below 64 and to 255
 
-module _ (p p' : Paths) (kept : Kept p p') where
+module _ (p p' : Paths) (kept : Kept p p') (falls : p'.bound ≤ℤ p.bound) where
   pub reached_label : {l : ℕ} {z : ℤ} → l < 64 → length p.far ≡ 64 → length p.by ≡ 64 → z <ℤ get_or p.far l (pos 0)
-      → p'.far ≡ set p.far l z → p'.by ≡ set p.by l p.step → p'.waiting ≡ bit_or p.waiting (2 ^ l) → p'.home ≡ p.home → p'.home_by ≡ p.home_by → Reached p p' l z
-  reached_label {l} {z} h sf sb less ef eb ew eh ey = record {
+      → p'.far ≡ set p.far l z → p'.by ≡ set p.by l p.step → ((k : ℕ) → (k ≡ l → ⊥) → bit p'.waiting k ≡ bit p.waiting k) → (bit p'.waiting l ≡ true) ⊎ (p'.bound ≤ℤ z)
+      → p'.home ≡ p.home → p'.home_by ≡ p.home_by → Reached p p' l z
+  reached_label {l} {z} h sf sb less ef eb ew waits eh ey = record {
     kept = kept;
+    falls = falls;
     others = λ k d. record {
       far = far_same p p' k (λ _. ap (λ (t : List ℤ). get_or t k (pos 0)) ef ∙ get_or-set_other p.far l k z (pos 0) d) (λ _. eh);
       by = by_same_lem p p' k (λ _. ap (λ (t : List ℕ). entry t k) eb ∙ get_or-set_other p.by l k p.step 0 d) (λ _. ey);
-      waits = ap (λ (w : ℕ). bit w k) ew ∙ bit_or_lem p.waiting (2 ^ l) k ∙ other (bit p.waiting k) (bit_power l k ∙ ne_eqb k l d);
+      waits = ew k d;
     };
     here = inr (record {
       less = let e = far_small p h in rw e less;
       far = far_small p' h ∙ ap (λ (t : List ℤ). get_or t l (pos 0)) ef ∙ get_or-set_same p.far l z (pos 0) (omega arith);
       by = by_small p' h ∙ ap (λ (t : List ℕ). entry t l) eb ∙ get_or-set_same p.by l p.step 0 (omega arith);
-      waits = λ _. ap (λ (w : ℕ). bit w l) ew ∙ bit_or_lem p.waiting (2 ^ l) l ∙ right_true (bit p.waiting l) (bit_own l);
+      waits = waits;
     });
   }
-    where
-      other : (a : Bool) {b : Bool} → b ≡ false → (mathlib.Core.Bool.◌||◌ a b) ≡ a
-      other true e = refl
-      other false e = e
 
-  pub reached_home : {l : ℕ} {z : ℤ} → l ≡ 255 → z <ℤ p.home → p'.far ≡ p.far → p'.by ≡ p.by → p'.waiting ≡ p.waiting → p'.home ≡ z → p'.home_by ≡ p.step → Reached p p' l z
-  reached_home {l} {z} h less ef eb ew eh ey = record {
+  pub reached_home : {l : ℕ} {z : ℤ} → l ≡ 255 → z <ℤ p.home → p'.far ≡ p.far → p'.by ≡ p.by → p'.waiting ≡ p.waiting → p'.bound ≤ℤ z → p'.home ≡ z → p'.home_by ≡ p.step → Reached p p' l z
+  reached_home {l} {z} h less ef eb ew near eh ey = record {
     kept = kept;
+    falls = falls;
     others = λ k d. record {
       far = far_same p p' k (λ _. ap (λ (t : List ℤ). get_or t k (pos 0)) ef) (λ e. absurd (d (e ∙ sym h)));
       by = by_same_lem p p' k (λ _. ap (λ (t : List ℕ). entry t k) eb) (λ e. absurd (d (e ∙ sym h)));
@@ -129,19 +129,67 @@ module _ (p p' : Paths) (kept : Kept p p') where
       less = let e = far_home p h in rw e less;
       far = far_home p' h ∙ eh;
       by = by_home p' h ∙ ey;
-      waits = λ s. absurd (omega arith);
+      waits = inr near;
     });
+  }
+
+-- a label that begins to wait
+pub waits_here : (w l : ℕ) → bit (bit_or w (2 ^ l)) l ≡ true
+waits_here w l = bit_or_lem w (2 ^ l) l ∙ right_true (bit w l) (bit_own l)
+
+pub waits_other : (w l k : ℕ) → (k ≡ l → ⊥) → bit (bit_or w (2 ^ l)) k ≡ bit w k
+waits_other w l k d = bit_or_lem w (2 ^ l) k ∙ other (bit w k) (bit_power l k ∙ ne_eqb k l d)
+  where
+    other : (a : Bool) {b : Bool} → b ≡ false → (mathlib.Core.Bool.◌||◌ a b) ≡ a
+    other true e = refl
+    other false e = e
+
+-- ---- the goal after a shorter way
+
+module _ {free : ℕ} {p p' : Paths} {l : ℕ} {z : ℤ} (b : Bounded free p) (r : Reached p p' l z) (less : z <ℤ far_of p l) where
+  far_here : far_of p' l ≡ z
+  far_here = ⊎_elim (λ (s, q). absurd (omega linear)) (λ n. n.far) r.here
+
+  -- the goal stays
+  module _ (ez : p'.bound ≡ p.bound) (eg : p'.goal ≡ p.goal) where
+    stays : (p.goal ≡ l → ⊥) → far_of p p.goal ≡ far_of p' p'.goal
+    stays d = sym (r.others p.goal d).far ∙ ap (far_of p') (sym eg)
+
+    pub bounded_past : p.bound ≤ℤ z → p'.waiting ≡ p.waiting → Bounded free p'
+    bounded_past h ew = record {
+      kind = subst (Exit free) (sym eg) b.kind;
+      goal = ez ∙ b.goal ∙ stays (λ e. let x = b.goal in let y = ap (far_of p) e in absurd (omega (linear, parts x, parts y)));
+      ends = λ k x. by-same k l (λ e. subst (λ i. p'.bound ≤ℤ far_of p' i) (sym e) (omega (linear, parts far_here, parts ez))) (λ d. let y = (r.others k d).far in let w = b.ends k x in omega (linear, parts y, parts ez));
+      held = λ k w. b.held k (sym (ap (λ (x : ℕ). bit x k) ew) ∙ w);
+    }
+
+    pub bounded_waits : (Exit free l → ⊥) → bit free l ≡ false → p'.waiting ≡ bit_or p.waiting (2 ^ l) → Bounded free p'
+    bounded_waits not f ew = record {
+      kind = subst (Exit free) (sym eg) b.kind;
+      goal = ez ∙ b.goal ∙ stays (λ e. not (subst (Exit free) e b.kind));
+      ends = λ k x. by-same k l (λ e. absurd (not (subst (Exit free) e x))) (λ d. let y = (r.others k d).far in let w = b.ends k x in omega (linear, parts y, parts ez));
+      held = λ k w. by-same k l (λ e. ap (bit free) e ∙ f) (λ d. b.held k (sym (waits_other p.waiting l k d) ∙ sym (ap (λ (x : ℕ). bit x k) ew) ∙ w));
+    }
+
+  -- the label is the goal
+  pub bounded_goal : Exit free l → z <ℤ p.bound → p'.bound ≡ z → p'.goal ≡ l → p'.waiting ≡ p.waiting → Bounded free p'
+  bounded_goal x h ez eg ew = record {
+    kind = subst (Exit free) (sym eg) x;
+    goal = ez ∙ sym far_here ∙ ap (far_of p') (sym eg);
+    ends = λ k y. by-same k l (λ e. subst (λ i. p'.bound ≤ℤ far_of p' i) (sym e) (omega (linear, parts far_here, parts ez))) (λ d. let s = (r.others k d).far in let w = b.ends k y in omega (linear, parts s, parts ez));
+    held = λ k w. b.held k (sym (ap (λ (x : ℕ). bit x k) ew) ∙ w);
   }
 
 -- ---- a node's row: the first k of its labels f
 
 pub record Scanning (o : Offers) (p p' : Paths) (u : ℕ) (b : ℤ) (f : ℕ → ℕ) (k : ℕ) : Type 0 where
   pub kept : Kept p p'
+  pub falls : p'.bound ≤ℤ p.bound
   pub covered : (j : ℕ) → j < k → far_of p' (f j) ≤ℤ way o p.prices u b (f j)
   pub each : (l : ℕ) → Same p p' l ⊎ (may o u l × Nearer p p' l (way o p.prices u b l))
 
 pub scanning_none : (o : Offers) (p : Paths) (u : ℕ) (b : ℤ) (f : ℕ → ℕ) → Scanning o p p u b f 0
-scanning_none o p u b f = record { kept = kept_self p; covered = λ j h. absurd (omega arith); each = λ l. inl (same_self p l) }
+scanning_none o p u b f = record { kept = kept_self p; falls = le_refl p.bound; covered = λ j h. absurd (omega arith); each = λ l. inl (same_self p l) }
 
 -- no way grows longer
 reached_le : {p p' : Paths} {l : ℕ} {z : ℤ} → Reached p p' l z → (k : ℕ) → far_of p' k ≤ℤ far_of p k
@@ -153,6 +201,7 @@ pub scanning_more : {o : Offers} {p p' p'' : Paths} {u : ℕ} {b : ℤ} {f : ℕ
     → Reached p' p'' (f k) (way o p.prices u b (f k)) → Scanning o p p'' u b f (k + 1)
 scanning_more {o} {p} {p'} {p''} {u} {b} {f} {k} a v r = record {
   kept = record { prices = r.kept.prices ∙ v.kept.prices; nodes = r.kept.nodes ∙ v.kept.nodes; labels = r.kept.labels ∙ v.kept.labels; step = r.kept.step ∙ v.kept.step };
+  falls = le_trans r.falls v.falls;
   covered = λ j h. by-same j k
       (λ e. subst (λ i. far_of p'' (f i) ≤ℤ way o p.prices u b (f i)) (sym e) (⊎_elim (λ (s, q). omega (linear, s.far)) (λ n. omega (linear, n.far)) r.here))
       (λ d. let q = v.covered j (omega arith) in let y = reached_le r (f j) in omega linear);
@@ -165,7 +214,7 @@ scanning_more {o} {p} {p'} {p''} {u} {b} {f} {k} a v r = record {
     joined t s = record { far = s.far ∙ t.far; by = s.by ∙ t.by; waits = s.waits ∙ t.waits }
 
     carried : {l : ℕ} {z : ℤ} → Nearer p p' l z → Same p' p'' l → Nearer p p'' l z
-    carried n s = record { less = n.less; far = s.far ∙ n.far; by = s.by ∙ n.by; waits = λ h. s.waits ∙ n.waits h }
+    carried n s = record { less = n.less; far = s.far ∙ n.far; by = s.by ∙ n.by; waits = ⊎_elim (λ w. inl (s.waits ∙ w)) (λ h. inr (le_trans r.falls h)) n.waits }
 
     here : Same p p'' (f k) ⊎ (may o u (f k) × Nearer p p'' (f k) (way o p.prices u b (f k)))
     here = ⊎_elim
@@ -180,6 +229,7 @@ scanning_more {o} {p} {p'} {p''} {u} {b} {f} {k} a v r = record {
 pub scanning_all : {o : Offers} {p p' : Paths} {u : ℕ} {b : ℤ} {f : ℕ → ℕ} {k : ℕ} → Scanning o p p' u b f k → ((l : ℕ) → may o u l → (j : ℕ) × (j < k) × (f j ≡ l)) → Scanned o p p' u b
 scanning_all {o} {p} {p'} {u} {b} v g = record {
   kept = v.kept;
+  falls = v.falls;
   covered = λ l m. let (j, h, e) = g l m in subst (λ i. far_of p' i ≤ℤ way o p.prices u b i) e (v.covered j h);
   each = v.each;
 }

@@ -164,10 +164,10 @@ module _ {o : Offers} {s : Seats} {p : Paths} {root : ℕ} (t : Turn o s p.price
     -- ---- p with these prices
 
     abbrev raised : Paths
-    raised = record { prices = q.prices; far = p.far; by = p.by; labels = p.labels; nodes = p.nodes; step = p.step; waiting = q.waiting; home = p.home; home_by = p.home_by }
+    raised = record { prices = q.prices; far = p.far; by = p.by; labels = p.labels; nodes = p.nodes; step = p.step; waiting = q.waiting; home = p.home; home_by = p.home_by; bound = q.bound; goal = q.goal }
 
     raised_is : raised ≡ q
-    raised_is = let y = r.stays in λ j. record { prices = q.prices; far = sym y.far j; by = sym y.by j; labels = sym y.labels j; nodes = sym y.nodes j; step = sym y.step j; waiting = q.waiting; home = sym y.home j; home_by = sym y.home_by j }
+    raised_is = let y = r.stays in λ j. record { prices = q.prices; far = sym y.far j; by = sym y.by j; labels = sym y.labels j; nodes = sym y.nodes j; step = sym y.step j; waiting = q.waiting; home = sym y.home j; home_by = sym y.home_by j; bound = q.bound; goal = q.goal }
 
     link_raised : (l : ℕ) → far_of p l <ℤ unmet → far_of p l ≤ℤ z → Link o.nodes.now.sets o.nodes.now.own (paid o) raised l
     unfolding by_of

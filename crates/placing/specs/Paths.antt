@@ -40,6 +40,17 @@ by_of p l = by_kind l (entry p.by l) p.home_by 0
 abbrev pub way : Offers → List ℤ → ℕ → ℤ → ℕ → ℤ
 way o prices u b l = (b +ℤ paid o u l) +ℤ price prices l
 
+-- where a search may end: at a free label, or at 255
+abbrev pub Exit : ℕ → ℕ → Type 0
+Exit free l = ((l < 64) × (bit free l ≡ true)) ⊎ (l ≡ 255)
+
+-- the goal is the nearest end, and a label that waits is no end
+pub record Bounded (free : ℕ) (p : Paths) : Type 0 where
+  pub kind : Exit free p.goal
+  pub goal : p.bound ≡ far_of p p.goal
+  pub ends : (l : ℕ) → Exit free l → p.bound ≤ℤ far_of p l
+  pub held : (l : ℕ) → bit p.waiting l ≡ true → bit free l ≡ false
+
 -- all but the ways to labels
 pub record Kept (p p' : Paths) : Type 0 where
   pub prices : p'.prices ≡ p.prices
@@ -53,16 +64,17 @@ pub record Same (p p' : Paths) (l : ℕ) : Type 0 where
   pub by : by_of p' l ≡ by_of p l
   pub waits : bit p'.waiting l ≡ bit p.waiting l
 
--- it is shorter, from the last step
+-- it is shorter, from the last step; the label waits, or an end is as near
 pub record Nearer (p p' : Paths) (l : ℕ) (z : ℤ) : Type 0 where
   pub less : z <ℤ far_of p l
   pub far : far_of p' l ≡ z
   pub by : by_of p' l ≡ p.step
-  pub waits : l < 64 → bit p'.waiting l ≡ true
+  pub waits : (bit p'.waiting l ≡ true) ⊎ (p'.bound ≤ℤ z)
 
 -- a way of length z to the label l was seen
 pub record Reached (p p' : Paths) (l : ℕ) (z : ℤ) : Type 0 where
   pub kept : Kept p p'
+  pub falls : p'.bound ≤ℤ p.bound
   pub others : (k : ℕ) → (k ≡ l → ⊥) → Same p p' k
   pub here : (Same p p' l × (far_of p l ≤ℤ z)) ⊎ Nearer p p' l z
 
@@ -76,6 +88,7 @@ pub record Row (o : Offers) (p : Paths) (u : ℕ) (b : ℤ) : Type 0 where
 -- it was gone through from a way of length b: each of the node's labels is as near as over this node, and those nearer than before are so by that
 pub record Scanned (o : Offers) (p p' : Paths) (u : ℕ) (b : ℤ) : Type 0 where
   pub kept : Kept p p'
+  pub falls : p'.bound ≤ℤ p.bound
   pub covered : (l : ℕ) → may o u l → far_of p' l ≤ℤ way o p.prices u b l
   pub each : (l : ℕ) → Same p p' l ⊎ (may o u l × Nearer p p' l (way o p.prices u b l))
 
@@ -84,6 +97,10 @@ pub record Nearest (p : Paths) (l : ℕ) : Type 0 where
   pub small : l < 64
   pub waits : bit p.waiting l ≡ true
   pub least : (k : ℕ) → bit p.waiting k ≡ true → far_of p l ≤ℤ far_of p k
+
+-- the label that waits with the least way if no end is as near, else 64
+abbrev pub Chosen : Paths → ℕ → Type 0
+Chosen p l = ((l ≡ 64) × ((k : ℕ) → bit p.waiting k ≡ true → p.bound ≤ℤ far_of p k)) ⊎ (Nearest p l × (far_of p l <ℤ p.bound))
 
 -- ---- a search
 
@@ -120,19 +137,20 @@ pub record Searched (o : Offers) (s : Seats) (p : Paths) (root m : ℕ) : Type 0
   pub covered : (i l : ℕ) → i < m → may o (entry p.nodes i) l → far_of p l ≤ℤ way o p.prices (entry p.nodes i) (base i) l
   pub found : (l : ℕ) → far_of p l <ℤ unmet → (by_of p l < m) × may o (entry p.nodes (by_of p l)) l × (far_of p l ≡ way o p.prices (entry p.nodes (by_of p l)) (base (by_of p l)) l)
   pub waits : (l : ℕ) → l < 64 → bit p.waiting l ≡ true → (far_of p l <ℤ unmet) × (Gone p l → ⊥)
-  pub met : (l : ℕ) → l < 64 → far_of p l <ℤ unmet → (bit p.waiting l ≡ true) ⊎ Gone p l
+  pub met : (l : ℕ) → far_of p l <ℤ unmet → (bit p.waiting l ≡ true) ⊎ Gone p l ⊎ (p.bound ≤ℤ far_of p l)
+  pub bounded : Bounded s.free p
 
--- the nearest label that waits is held, and nearer than 255: a step goes from it
+-- the nearest label that waits is nearer than each end: a step goes from it
 pub record Onward (o : Offers) (s : Seats) (p : Paths) (root l : ℕ) : Type 0 where
   pub turn : Turn o s p.prices root
   pub searched : Searched o s p root (p.step + 1)
   pub nearest : Nearest p l
   pub held : bit s.free l ≡ false
-  pub home : far_of p l ≤ℤ p.home
+  pub home : far_of p l ≤ℤ p.bound
 
 -- it ended at a label, to which there is no way nearer
 pub record Ended (s : Seats) (p : Paths) (l : ℕ) : Type 0 where
-  pub kind : ((l < 64) × (bit s.free l ≡ true)) ⊎ (l ≡ 255)
+  pub kind : Exit s.free l
   pub met : far_of p l <ℤ unmet
   pub least : (k : ℕ) → (Gone p k → ⊥) → far_of p l ≤ℤ far_of p k
 

@@ -3,7 +3,7 @@ ghost use Rattle.std.specs.Prelude.{◌≡◌, ℕ, true, false, ◌+◌, ◌^�
 ghost use Rattle.integers.specs.Words.{bit};
 ghost use Rattle.placing.specs.Words.{entry, All};
 ghost use Rattle.placing.specs.Priced.{price};
-ghost use Rattle.placing.specs.Paths.{may, far_of, paid, Kind, Row, Turn, Nearest, Reached, Scanned, Searched, Onward, Ended, Raising, RaisedTo};
+ghost use Rattle.placing.specs.Paths.{may, far_of, paid, Kind, Row, Turn, Bounded, Chosen, Reached, Scanned, Searched, Onward, Ended, Raising, RaisedTo};
 
 use crate::offers::Offers;
 use crate::seats::Seats;
@@ -22,7 +22,7 @@ fn at(table: &[i64; 64], l: u8) -> i64
 }
 
 // The prices of the labels, and a search for a label of least cost: step 0 is at the root, each other at the node that holds the step's label.
-// `far` is the least way to each label and `by` the step from which it comes, `home` and `home_by` the same of 255; `waiting` has the labels met from which no step went.
+// `far` is the least way to each label and `by` the step from which it comes, `home` and `home_by` the same of 255. `bound` is the least way to an end, which is a free label or 255, and `goal` that end; `waiting` has the other labels met from which no step went, but for those that were not nearer than the bound.
 #[derive(Drop)]
 pub(crate) struct Paths {
     pub prices: [i64; 64],
@@ -34,6 +34,8 @@ pub(crate) struct Paths {
     pub waiting: u64,
     pub home: i64,
     pub home_by: u8,
+    pub bound: i64,
+    pub goal: u8,
 }
 
 impl Paths {
@@ -51,13 +53,15 @@ impl Paths {
             waiting: 0,
             home: FAR,
             home_by: 0,
+            bound: FAR,
+            goal: 255,
         }
     }
 
-    // A way from the last step to a label, but for the label's price.
-    fn reach(&mut self, l: u8, way: i64)
-        requires { Kind l × (self.old.step < 64) × (unsigned_abs way ≤ 2 ^ 60) × (unsigned_abs (price self.old.prices l) ≤ 2 ^ 50) }
-        ensures { Reached self.old self.new l (way +ℤ price self.old.prices l) }
+    // A way from the last step to a label, but for the label's price; `free` has the labels that are free.
+    fn reach(&mut self, free: u64, l: u8, way: i64)
+        requires { Kind l × (self.old.step < 64) × (unsigned_abs way ≤ 2 ^ 60) × (unsigned_abs (price self.old.prices l) ≤ 2 ^ 50) × Bounded free self.old }
+        ensures { Reached self.old self.new l (way +ℤ price self.old.prices l) × Bounded free self.new }
     {
         // Kept: a step is below 64; `try_from` would add a case that cannot happen.
         let step = self.step as u8;
@@ -69,11 +73,23 @@ impl Paths {
                 let label = usize::from(l);
                 self.far[label] = far;
                 self.by[label] = step;
-                self.waiting |= bit_of(l);
+                if far >= self.bound {
+                    return;
+                }
+                if has(free, l) {
+                    self.bound = far;
+                    self.goal = l;
+                } else {
+                    self.waiting |= bit_of(l);
+                }
             }
         } else if way < self.home {
             self.home = way;
             self.home_by = step;
+            if way < self.bound {
+                self.bound = way;
+                self.goal = l;
+            }
         }
     }
 
@@ -86,32 +102,41 @@ impl Paths {
         if l < 64 { at(&self.far, l) } else { self.home }
     }
 
+    // The least way to an end.
+    // Kept: a function, as in `way_to`.
+    fn way_out(&self) -> i64
+        ensures { result ≡ self.now.bound }
+    {
+        self.bound
+    }
+
     // The ways from the last step, which is at node `u`.
-    fn scan(&mut self, offers: &Offers, u: usize, base: i64)
-        requires { Row offers.now self.old u base }
-        ensures { Scanned offers.now self.old self.new u base }
+    fn scan(&mut self, free: u64, offers: &Offers, u: usize, base: i64)
+        requires { Row offers.now self.old u base × Bounded free self.old }
+        ensures { Scanned offers.now self.old self.new u base × Bounded free self.new }
     {
         let labels = offers.sheet.labels_of(u);
         let start = offers.sheet.starts[u];
         for (k, label) in labels.iter().enumerate() {
             let cost = offers.costs[start + k];
-            self.reach(*label, base + cost);
+            self.reach(free, *label, base + cost);
         }
     }
 
-    // The label that waits with the least way.
+    // The label that waits with the least way, 64 if none is nearer than an end.
+    // Kept: 64 and no Option: the loop that asks reads the number alone.
     fn nearest(&self) -> u8
-        requires { self.now.waiting ≡ 0 → ⊥ }
-        ensures { Nearest self.now result }
+        ensures { Chosen self.now result }
     {
-        let mut best = lowest(self.waiting);
-        let mut rest = self.waiting & (self.waiting - 1);
+        let mut best = 64;
+        let mut least = self.bound;
+        let mut rest = self.waiting;
         while rest != 0 {
             let l = lowest(rest);
             let far = at(&self.far, l);
-            let least = at(&self.far, best);
             if far < least {
                 best = l;
+                least = far;
             }
             rest &= rest - 1;
         }
@@ -125,11 +150,13 @@ impl Paths {
     {
         self.far = [FAR; 64];
         self.home = FAR;
+        self.bound = FAR;
+        self.goal = 255;
         self.waiting = 0;
         self.step = 0;
         // Kept: a node is below 64, as in `Seats`.
         self.nodes[0] = root as u8;
-        self.scan(offers, root, 0);
+        self.scan(seats.free, offers, root, 0);
     }
 
     // A step more, at the node that holds the label.
@@ -147,7 +174,7 @@ impl Paths {
         self.labels[self.step] = l;
         self.nodes[self.step] = holder;
         self.waiting ^= bit_of(l);
-        self.scan(offers, u, base);
+        self.scan(seats.free, offers, u, base);
     }
 
     // Goes from the root to the nearest label that is free, or to 255: the label where it ends, and none if no way leads on.
@@ -158,20 +185,13 @@ impl Paths {
             (λ end. Searched offers.now seats.now self.new root (self.new.step + 1) × Ended seats.now self.new end) }
     {
         self.begin(seats, offers, root);
-        while self.waiting != 0 {
-            let l = self.nearest();
-            let far = at(&self.far, l);
-            let home = self.way_to(255);
-            if home <= far {
-                return Some(255);
-            }
-            if has(seats.free, l) {
-                return Some(l);
-            }
+        let mut l = self.nearest();
+        while l < 64 {
             self.go(seats, offers, l);
+            l = self.nearest();
         }
-        let home = self.way_to(255);
-        if home < FAR { Some(255) } else { None }
+        let bound = self.way_out();
+        if bound < FAR { Some(self.goal) } else { None }
     }
 
     // The labels from which steps went cost more by as much as they are nearer than the end.

@@ -1,92 +1,70 @@
 -- `find_end` meets its contract: the rows of all steps so far were gone through.
-use Rattle.std.proofs.Common.{◌≡◌, false, ◌∙◌, ◌≤ℤ◌, refl, sym, subst, arith, to_z, of_z, w64}
+use Rattle.std.proofs.Common.{ℕ, ◌<◌, ◌≤◌, ◌≡◌, true, ◌≤ℤ◌, ◌<ℤ◌, ◌∙◌, sym, subst, arith, to_z, of_z, w64, ⊎_elim}
+use Rattle.integers.specs.Words.{bit}
 use Rattle.integers.proofs.Bits.{answer}
 use Rattle.integers.proofs.Parts.{linear, parts}
-use Rattle.integers.proofs.Order.{le_trans}
-use Rattle.integers.proofs.Words.{some_bit}
 use Rattle.placing.specs.declared.paths.Paths.{Paths}
-use Rattle.placing.specs.Paths.{far_of, Turn, Onward}
-use Rattle.placing.proofs.Reaching.{far_small, far_home}
-use Rattle.placing.proofs.Ending.{ended_home, ended_free, ended_none}
+use Rattle.placing.specs.Paths.{far_of, Nearest, Turn, Onward, Chosen}
+use Rattle.placing.proofs.Ending.{ended, ended_none}
 use Rattle.placing.proofs.paths.Paths.find_end.Goals as goal
-use Rattle.placing.proofs.paths.Paths.find_end.Goals.{At-loop-self, After-way_to-home, After-way_to-home-2, After-has}
+use Rattle.placing.proofs.paths.Paths.find_end.Goals.{At-loop-l, In-loop-l, After-way_out-bound}
+
+chosen_near : {p : Paths} {l : ℕ} → Chosen p l → l < 64 → Nearest p l × (far_of p l <ℤ p.bound)
+chosen_near v h = ⊎_elim (λ (e, _). absurd (omega arith)) (λ y. y) v
+
+chosen_none : {p : Paths} {l : ℕ} → Chosen p l → 64 ≤ l → (k : ℕ) → bit p.waiting k ≡ true → p.bound ≤ℤ far_of p k
+chosen_none v h = ⊎_elim (λ (_, y). y) (λ (n, _). let z = n.small in absurd (omega arith)) v
 
 -- the search so far
-module _ (c : At-loop-self) where
+module _ (c : At-loop-l) where
   abbrev p : Paths
-  p = c.loop-self.self
+  p = c.loop-l.self
 
   turn : Turn c.args.offers.now c.args.seats.now p.prices c.args.root
-  turn = subst (λ w. Turn c.args.offers.now c.args.seats.now w c.args.root) (sym c.loop-self.invariant.0) c.requires
+  turn = subst (λ w. Turn c.args.offers.now c.args.seats.now w c.args.root) (sym c.loop-l.invariant.0) c.requires
 
--- the nearest label, and 255
-module _ (c : After-way_to-home) where
-  abbrev h : At-loop-self
-  h = (goal.at.After-way_to-home c).At-loop-self
-
-  far_is : to_z w64 (of_z w64 c.at-far.result) ≡ far_of (p h) c.nearest-l.result
-  far_is = answer c.at-far.type_inv (c.at-far.ensures ∙ sym (far_small (p h) c.nearest-l.ensures.small))
-
-  home_is : to_z w64 (of_z w64 c.way_to-home.result) ≡ (p h).home
-  home_is = answer c.way_to-home.type_inv (c.way_to-home.ensures ∙ far_home (p h) refl)
-
-pub loop-self-init : goal.loop-self-init
-loop-self-init c = c.begin.ensures
-
-pub returns-then-home-far-clause-answer : goal.returns-then-home-far-clause-answer
-returns-then-home-far-clause-answer c =
-    let x = (goal.at.returns-then-home-far-clause-answer c).After-way_to-home in
-    let t = h x in
-    let v = c.loop-self.invariant.1 in
-    let n = c.nearest-l.ensures in
-    let near : (p t).home ≤ℤ far_of (p t) c.nearest-l.result = omega (linear, parts (home_is x), parts (far_is x), c.if-home-far.true) in
-    let met = (v.waits c.nearest-l.result n.small n.waits).0 in
-    (v, ended_home (turn t) v (omega linear) (λ k w. le_trans near (n.least k w)))
-
-pub returns-then-has-clause-answer : goal.returns-then-has-clause-answer
-returns-then-has-clause-answer c =
-    let x = (goal.at.returns-then-has-clause-answer c).After-way_to-home in
-    let v = c.loop-self.invariant.1 in
-    (v, ended_free (turn (h x)) v c.nearest-l.ensures (omega (linear, parts (home_is x), parts (far_is x), c.if-home-far.false)) (sym c.has.ensures ∙ c.if-has.true))
+pub loop-l-init : goal.loop-l-init
+loop-l-init c = (c.begin.ensures.0, c.begin.ensures.1, c.nearest-l.ensures)
 
 -- a step goes on
-onward : (c : After-has) → c.has.result ≡ false → Onward c.args.offers.now c.args.seats.now c.loop-self.self c.args.root c.nearest-l.result
-onward c f =
-    let x = (goal.at.After-has c).After-way_to-home in
+onward : (c : In-loop-l) → Onward c.args.offers.now c.args.seats.now c.loop-l.self c.args.root c.loop-l.l
+onward c =
+    let v = c.loop-l.invariant.1 in
+    let (n, h) = chosen_near c.loop-l.invariant.2 c.loop-l-test.true in
     record {
-      turn = turn (h x);
-      searched = c.loop-self.invariant.1;
-      nearest = c.nearest-l.ensures;
-      held = sym c.has.ensures ∙ f;
-      home = omega (linear, parts (home_is x), parts (far_is x), c.if-home-far.false);
+      turn = turn (goal.at.In-loop-l c).At-loop-l;
+      searched = v;
+      nearest = n;
+      held = v.bounded.held c.loop-l.l n.waits;
+      home = omega linear;
     }
 
 pub go-requires : goal.go-requires
-go-requires c = (c.args.root, onward (goal.at.go-requires c).After-has c.if-has.false)
+go-requires c = (c.args.root, onward (goal.at.go-requires c).In-loop-l)
 
-pub loop-self-smaller : goal.loop-self-smaller
-loop-self-smaller c =
-    let e = c.go.ensures c.args.root (onward (goal.at.loop-self-smaller c).After-has c.if-has.false) in
-    omega (arith, e.1, c.loop-self.invariant.1.few)
+pub loop-l-smaller : goal.loop-l-smaller
+loop-l-smaller c =
+    let e = c.go.ensures c.args.root (onward (goal.at.loop-l-smaller c).In-loop-l) in
+    omega (arith, e.1, c.loop-l.invariant.1.few)
 
-pub loop-self-preserved : goal.loop-self-preserved
-loop-self-preserved c =
-    let e = c.go.ensures c.args.root (onward (goal.at.loop-self-preserved c).After-has c.if-has.false) in
-    (e.0 ∙ c.loop-self.invariant.0, e.2)
+pub loop-l-preserved : goal.loop-l-preserved
+loop-l-preserved c =
+    let e = c.go.ensures c.args.root (onward (goal.at.loop-l-preserved c).In-loop-l) in
+    (e.0 ∙ c.loop-l.invariant.0, e.2, c.nearest-l-in-loop-l.ensures)
 
--- 255 when no label waits
-last : (c : After-way_to-home-2) → to_z w64 (of_z w64 c.way_to-home-2.result) ≡ c.loop-self.self.home
-last c = answer c.way_to-home-2.type_inv (c.way_to-home-2.ensures ∙ far_home c.loop-self.self refl)
+-- the bound
+bound_is : (c : After-way_out-bound) → to_z w64 (of_z w64 c.way_out-bound.result) ≡ c.loop-l.self.bound
+bound_is c = answer c.way_out-bound.type_inv c.way_out-bound.ensures
 
-pub returns-then-home-lt-FAR-clause-answer : goal.returns-then-home-lt-FAR-clause-answer
-returns-then-home-lt-FAR-clause-answer c =
-    let t = (goal.at.returns-then-home-lt-FAR-clause-answer c).At-loop-self in
-    let e = last (goal.at.returns-then-home-lt-FAR-clause-answer c).After-way_to-home-2 in
-    let v = c.loop-self.invariant.1 in
-    (v, ended_home (turn t) v (omega (linear, parts e, c.if-home-lt-FAR.true)) (λ k w. absurd (some_bit (p t).waiting k w c.loop-self-test.false)))
+pub returns-then-bound-lt-FAR-clause-answer : goal.returns-then-bound-lt-FAR-clause-answer
+returns-then-bound-lt-FAR-clause-answer c =
+    let t = (goal.at.returns-then-bound-lt-FAR-clause-answer c).At-loop-l in
+    let e = bound_is (goal.at.returns-then-bound-lt-FAR-clause-answer c).After-way_out-bound in
+    let v = c.loop-l.invariant.1 in
+    (v, ended (turn t) v (chosen_none c.loop-l.invariant.2 c.loop-l-test.false) (omega (linear, parts e, c.if-bound-lt-FAR.true)))
 
-pub returns-else-home-lt-FAR-clause-answer : goal.returns-else-home-lt-FAR-clause-answer
-returns-else-home-lt-FAR-clause-answer c =
-    let t = (goal.at.returns-else-home-lt-FAR-clause-answer c).At-loop-self in
-    let e = last (goal.at.returns-else-home-lt-FAR-clause-answer c).After-way_to-home-2 in
-    ended_none (turn t) c.loop-self.invariant.1 c.loop-self-test.false (omega (linear, parts e, c.if-home-lt-FAR.false))
+pub returns-else-bound-lt-FAR-clause-answer : goal.returns-else-bound-lt-FAR-clause-answer
+returns-else-bound-lt-FAR-clause-answer c =
+    let t = (goal.at.returns-else-bound-lt-FAR-clause-answer c).At-loop-l in
+    let e = bound_is (goal.at.returns-else-bound-lt-FAR-clause-answer c).After-way_out-bound in
+    ended_none (turn t) c.loop-l.invariant.1 (chosen_none c.loop-l.invariant.2 c.loop-l-test.false) (omega (linear, parts e, c.if-bound-lt-FAR.false))

@@ -8,11 +8,27 @@ use Rattle.placing.specs.declared.paths.Paths.{Paths}
 use Rattle.placing.specs.declared.seats.Seats.{Seats}
 use Rattle.placing.specs.Words.{entry}
 use Rattle.placing.specs.Priced.{price}
-use Rattle.placing.specs.Paths.{paid, may, far_of, Scanned}
+use Rattle.placing.specs.Paths.{paid, may, far_of, Bounded, Scanned}
 use Rattle.placing.proofs.Reaching.{far_small}
-use Rattle.placing.proofs.Pathing.{root_few, length_fits, met_here, step_room, holder_few, holder_has, onward_fits, stepped_row}
+use Rattle.placing.proofs.Pathing.{root_few, length_fits, met_here, step_room, holder_few, holder_has, onward_fits, bounded_next, stepped_row}
 use Rattle.placing.proofs.paths.Paths.go.Goals as goal
 use Rattle.placing.proofs.paths.Paths.go.Goals.{After-at-price, After-cost-cost}
+
+-- the tables with the step at the node u; w is the label's word
+abbrev next : Paths → ℕ → ℕ → ℕ → Paths
+next p l u w = record {
+  prices = p.prices;
+  far = p.far;
+  by = p.by;
+  labels = set p.labels (p.step + 1) l;
+  nodes = set p.nodes (p.step + 1) u;
+  step = p.step + 1;
+  waiting = bit_xor p.waiting w;
+  home = p.home;
+  home_by = p.home_by;
+  bound = p.bound;
+  goal = p.goal;
+}
 
 module _ (c : After-at-price) where
   abbrev o : Offers
@@ -97,22 +113,15 @@ bounds-self-self-2 c = room (goal.at.bounds-self-self-2 c).After-at-price
 pub scan-requires : goal.scan-requires
 scan-requires c =
     let t = (goal.at.scan-requires c).After-cost-cost in
-    record { node = few (q t); step = room (q t); base = rw (base_is t) (omega (arith, b_small t)); prices = c.requires.1.turn.priced.top }
+    let e = c.requires.1 in (
+      record { node = few (q t); step = room (q t); base = rw (base_is t) (omega (arith, b_small t)); prices = e.turn.priced.top },
+      transport (λ j. Bounded c.args.seats.now.free (next c.args.self.now c.args.l (entry c.args.seats.now.holders (sym c.from.ensures j)) (sym c.bit_of.ensures j))) (bounded_next e.turn e.searched e.nearest e.held e.home),
+    )
 
 pub returns : goal.returns
 returns c root e =
     let x = (goal.at.returns c).After-cost-cost in
     let w = c.scan.new.self in
     let p = c.args.self.now in
-    let r = transport (λ j. Scanned c.args.offers.now (record {
-      prices = p.prices;
-      far = p.far;
-      by = p.by;
-      labels = set p.labels (p.step + 1) c.args.l;
-      nodes = set p.nodes (p.step + 1) (entry c.args.seats.now.holders (c.from.ensures j));
-      step = p.step + 1;
-      waiting = bit_xor p.waiting (c.bit_of.ensures j);
-      home = p.home;
-      home_by = p.home_by;
-    }) w (holder (q x) j) (base_is x j)) c.scan.ensures in
-    (r.kept.prices, r.kept.step, stepped_row e.turn e.searched e.nearest e.held e.home (search rules) (search rules) r)
+    let r = transport (λ j. Scanned c.args.offers.now (next p c.args.l (entry c.args.seats.now.holders (c.from.ensures j)) (c.bit_of.ensures j)) w (holder (q x) j) (base_is x j)) c.scan.ensures.0 in
+    (r.kept.prices, r.kept.step, stepped_row e.turn e.searched e.nearest e.held e.home (search rules) (search rules) r c.scan.ensures.1)
