@@ -1,7 +1,7 @@
 -- A node takes a label that is free, or leaves the one that it takes: the tables stay linked.
 -- Assumes nothing.
 use mathlib.Core.Path.{◌≡◌, refl, sym, ap, ◌∙◌, subst, transport}
-use mathlib.Core.Bool.{true, false, ◌||◌}
+use mathlib.Core.Bool.{Bool, true, false, ◌||◌}
 use mathlib.Core.List.{List}
 use Prim.Native.Nat.{ℕ, zero, suc, ◌-◌, ◌^◌, ◌≤◌, ◌<◌}
 use native.Mathlib.Omega.{arith}
@@ -14,7 +14,7 @@ use Rattle.integers.specs.Words.{bit, Words}
 use Rattle.integers.proofs.Places.{by-test}
 use Rattle.integers.proofs.Words.{bit_full, bit_dropped, bit_kept, power_fits}
 use Rattle.assignment.proofs.Counts.{differ, by-same}
-use Rattle.placing.specs.Words.{entry, Linked, Joined, Holds}
+use Rattle.placing.specs.Words.{entry, Linked, Joined, Holds, Stands, Standing}
 use Rattle.placing.proofs.Searching.{or_fails}
 
 -- a table of words with one set
@@ -133,6 +133,14 @@ module _ {sets taken holders reach : List ℕ} {free : ℕ} (k : Linked sets tak
         still w g d b =
             let (f, e) = k.taker w g b in
             (rest (entry taken w) b ∙ rw (f, ne_eqb (entry taken w) (entry taken u) (λ q. d (linked_distinct w u g h b q))), e)
+
+-- a node that takes a label stands
+pub stands_taker : {own : List Bool} {n out : ℕ} {taken : List ℕ} → Standing own n out taken → (u : ℕ) → u < 64 → entry taken u < 64 → Stands n out u
+stands_taker {own} {n} {out} {taken} s u h l =
+    let away : (Stands n out u → ⊥) → ⊥ = (λ f. let e = s.later u h f in omega arith) in
+    by-test (ltb u n)
+    (λ a. by-test (bit out u) (λ b. absurd (away (λ (_, y). differ b y))) (λ b. (ltb-true u n a, b)))
+    (λ a. absurd (away (λ (y, _). let g = ltb-false u n a in omega arith)))
 
 -- the same tables under other names
 pub linked_as : {sets sets' taken taken' holders reach : List ℕ} {free : ℕ} → sets ≡ sets' → taken ≡ taken' → Linked sets taken holders reach free → Linked sets' taken' holders reach free

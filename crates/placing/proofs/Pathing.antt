@@ -23,9 +23,10 @@ use Rattle.assignment.proofs.Counts.{differ, by-same, pigeonhole}
 use Rattle.placing.specs.declared.offers.Offers.{Offers}
 use Rattle.placing.specs.declared.paths.Paths.{Paths}
 use Rattle.placing.specs.declared.seats.Seats.{Seats}
-use Rattle.placing.specs.Words.{entry}
+use Rattle.placing.specs.Words.{entry, Stands}
 use Rattle.placing.specs.Priced.{price}
 use Rattle.placing.specs.Paths.{paid, may, way, unmet, far_of, by_of, Bounded, Kept, Same, Scanned, Nearest, Turn, Gone, Step, Searched}
+use Rattle.placing.proofs.Linking.{stands_taker}
 use Rattle.placing.proofs.Offering.{paid_within}
 use Rattle.placing.proofs.Reaching.{far_small, far_home, far_else}
 use Rattle.placing.proofs.Slots.{opens-bit}
@@ -45,14 +46,23 @@ module _ {o : Offers} {s : Seats} {prices : List ℤ} {root : ℕ} (t : Turn o s
   pub root_few : root < 64
   root_few = omega (arith, t.node, o.nodes.now.few)
 
-  -- the holder of a label that is not free: a node below the root
-  pub holder_at : (l : ℕ) → l < 64 → bit s.free l ≡ false → (entry s.holders l < root) × (entry s.taken (entry s.holders l) ≡ l)
-  holder_at l h f =
-      let (a, b, _) = t.linked.held l h f in
-      (by-test (ltb (entry s.holders l) root) (ltb-true (entry s.holders l) root) (λ z. let y = t.seated.later (entry s.holders l) (ltb-false (entry s.holders l) root z) a in absurd (omega arith)), b)
+  -- the nodes that are placed
+  abbrev pub Placed : ℕ → Type 0
+  Placed u = Stands o.nodes.now.count t.out u
+
+  pub placed_few : (u : ℕ) → Placed u → u < 64
+  placed_few u d = omega (arith, d.0, o.nodes.now.few)
+
+  -- the root is none of them
+  pub root_apart : (u : ℕ) → Placed u → u ≡ root → ⊥
+  root_apart u d e = differ t.waits (ap (bit t.out) (sym e) ∙ d.1)
+
+  -- the holder of a label that is not free: a node that is placed
+  pub holder_at : (l : ℕ) → l < 64 → bit s.free l ≡ false → Placed (entry s.holders l) × (entry s.taken (entry s.holders l) ≡ l)
+  holder_at l h f = let (a, b, _) = t.linked.held l h f in (stands_taker t.seated (entry s.holders l) a (omega arith), b)
 
   -- it pays least there
-  pub pays_least : (u l k : ℕ) → u < root → entry s.taken u ≡ l → may o u k → (paid o u l +ℤ price prices l) ≤ℤ (paid o u k +ℤ price prices k)
+  pub pays_least : (u l k : ℕ) → Placed u → entry s.taken u ≡ l → may o u k → (paid o u l +ℤ price prices l) ≤ℤ (paid o u k +ℤ price prices k)
   pays_least u l k h e a = subst (λ i. (paid o u i +ℤ price prices i) ≤ℤ (paid o u k +ℤ price prices k)) e (t.priced.least u k h a)
 
   pub way_small : (u l : ℕ) (b : ℤ) → nat_abs b ≤ 2 ^ 48 → way o prices u b l <ℤ unmet
@@ -73,15 +83,15 @@ after_is {p} {w} k = λ j. record { prices = sym k.prices j; far = w.far; by = w
 module _ {o : Offers} {s : Seats} {p : Paths} {root : ℕ} (t : Turn o s p.prices root) where
   module _ {m : ℕ} (v : Searched o s p root m) where
     -- the node of a step
-    pub step_node : (i : ℕ) → 0 < i → i ≤ p.step → (entry p.nodes i < root) × (entry s.taken (entry p.nodes i) ≡ entry p.labels i)
+    pub step_node : (i : ℕ) → 0 < i → i ≤ p.step → Placed t (entry p.nodes i) × (entry s.taken (entry p.nodes i) ≡ entry p.labels i)
     step_node i h g =
         let e = v.steps i h g in
-        subst (λ u. (u < root) × (entry s.taken u ≡ entry p.labels i)) (sym e.node) (holder_at t (entry p.labels i) e.small e.held)
+        subst (λ u. Placed t u × (entry s.taken u ≡ entry p.labels i)) (sym e.node) (holder_at t (entry p.labels i) e.small e.held)
 
     pub node_few : (i : ℕ) → i ≤ p.step → entry p.nodes i < o.nodes.now.count
     node_few i g = by-same i 0
         (λ e. rw (e, v.root_node) t.node)
-        (λ d. omega (arith, (step_node i (omega arith) g).0, t.node))
+        (λ d. (step_node i (omega arith) g).0.0)
 
     -- no two steps have one label, nor one node
     pub labels_once : (i j : ℕ) → 0 < i → i ≤ p.step → 0 < j → j ≤ p.step → entry p.labels i ≡ entry p.labels j → i ≡ j
@@ -91,42 +101,48 @@ module _ {o : Offers} {s : Seats} {p : Paths} {root : ℕ} (t : Turn o s p.price
 
     pub nodes_once : (i j : ℕ) → i ≤ p.step → j ≤ p.step → entry p.nodes i ≡ entry p.nodes j → i ≡ j
     nodes_once i j g k e = by-same i 0
-        (λ x. by-same j 0 (λ y. x ∙ sym y) (λ y. let a = step_node j (omega arith) k in let r = v.root_node in absurd (omega (arith, a.0, ap (entry p.nodes) x))))
-        (λ x. by-same j 0 (λ y. let a = step_node i (omega arith) g in let r = v.root_node in absurd (omega (arith, a.0, ap (entry p.nodes) y)))
+        (λ x. by-same j 0 (λ y. x ∙ sym y) (λ y. absurd (root_apart t (entry p.nodes j) (step_node j (omega arith) k).0 (sym e ∙ ap (entry p.nodes) x ∙ v.root_node))))
+        (λ x. by-same j 0 (λ y. absurd (root_apart t (entry p.nodes i) (step_node i (omega arith) g).0 (e ∙ ap (entry p.nodes) y ∙ v.root_node)))
         (λ y. labels_once i j (omega arith) g (omega arith) k (sym (step_node i (omega arith) g).1 ∙ ap (entry s.taken) e ∙ (step_node j (omega arith) k).1)))
 
-    -- a label that is none of a step's and is held: so far there are fewer steps than nodes below the root
-    pub steps_few : (l : ℕ) → l < 64 → bit s.free l ≡ false → (Gone p l → ⊥) → p.step < root
+    -- a label that is none of a step's and is held: so far there are fewer steps than nodes but for the root
+    pub steps_few : (l : ℕ) → l < 64 → bit s.free l ≡ false → (Gone p l → ⊥) → suc p.step < o.nodes.now.count
     steps_few l h f d =
-        let b = pigeonhole (λ i u. (i ≤ p.step) × (entry s.holders (at i) ≡ u))
-        (λ i j u x y. once i j x.0 y.0 (sym (held i x.0).1 ∙ ap (entry s.taken) (x.1 ∙ sym y.1) ∙ (held j y.0).1))
-        (suc p.step) root (λ _. true) (λ _. true)
-        (λ i k _. let g : i ≤ p.step = omega arith in (entry s.holders (at i), (held i g).0, refl, (g, refl))) in
-        let e = count_all (suc p.step) in
-        let e' = count_all root in
+        let b = pigeonhole (λ i u. (i < suc (suc p.step)) × (at i ≡ u))
+        (λ i j u x y. once i j x.0 y.0 (x.1 ∙ sym y.1))
+        (suc (suc p.step)) o.nodes.now.count (λ _. true) (λ _. true)
+        (λ i g _. (at i, few i g, refl, (g, refl))) in
+        let e = count_all (suc (suc p.step)) in
+        let e' = count_all o.nodes.now.count in
         omega arith
       where
-        -- the labels of the steps, and l
+        -- the nodes of the steps, and the holder of l
         at : ℕ → ℕ
-        at i = cond (eqb i 0) l (entry p.labels i)
+        at i = cond (eqb i (suc p.step)) (entry s.holders l) (entry p.nodes i)
 
-        at_zero : (i : ℕ) → i ≡ 0 → at i ≡ l
-        at_zero i e = if-true l (entry p.labels i) (eq-eqb i 0 e)
+        at_last : (i : ℕ) → i ≡ suc p.step → at i ≡ entry s.holders l
+        at_last i e = if-true (entry s.holders l) (entry p.nodes i) (eq-eqb i (suc p.step) e)
 
-        at_step : (i : ℕ) → (i ≡ 0 → ⊥) → at i ≡ entry p.labels i
-        at_step i e = if-false l (entry p.labels i) (ne_eqb i 0 e)
+        at_step : (i : ℕ) → (i ≡ suc p.step → ⊥) → at i ≡ entry p.nodes i
+        at_step i e = if-false (entry s.holders l) (entry p.nodes i) (ne_eqb i (suc p.step) e)
 
-        held : (i : ℕ) → i ≤ p.step → (entry s.holders (at i) < root) × (entry s.taken (entry s.holders (at i)) ≡ at i)
-        held i g = by-same i 0
-            (λ e. rw (at_zero i e) (holder_at t l h f))
-            (λ e. let y = v.steps i (omega arith) g in rw (at_step i e) (holder_at t (entry p.labels i) y.small y.held))
+        few : (i : ℕ) → i < suc (suc p.step) → at i < o.nodes.now.count
+        few i g = by-same i (suc p.step)
+            (λ e. rw (at_last i e) (holder_at t l h f).0.0)
+            (λ e. rw (at_step i e) (node_few i (omega arith)))
 
-        once : (i j : ℕ) → i ≤ p.step → j ≤ p.step → at i ≡ at j → i ≡ j
-        once i j g k e = by-same i 0
-            (λ x. by-same j 0 (λ y. x ∙ sym y) (λ y. absurd (d (j, omega arith, k, sym (at_step j y) ∙ sym e ∙ at_zero i x))))
-            (λ x. by-same j 0
-            (λ y. absurd (d (i, omega arith, g, sym (at_step i x) ∙ e ∙ at_zero j y)))
-            (λ y. labels_once i j (omega arith) g (omega arith) k (sym (at_step i x) ∙ e ∙ at_step j y)))
+        -- the holder's node is that of no step
+        apart : (i : ℕ) → i ≤ p.step → entry p.nodes i ≡ entry s.holders l → ⊥
+        apart i g e = by-same i 0
+            (λ x. root_apart t (entry s.holders l) (holder_at t l h f).0 (sym e ∙ ap (entry p.nodes) x ∙ v.root_node))
+            (λ x. d (i, omega arith, g, sym (step_node i (omega arith) g).1 ∙ ap (entry s.taken) e ∙ (holder_at t l h f).1))
+
+        once : (i j : ℕ) → i < suc (suc p.step) → j < suc (suc p.step) → at i ≡ at j → i ≡ j
+        once i j g k e = by-same i (suc p.step)
+            (λ x. by-same j (suc p.step) (λ y. x ∙ sym y) (λ y. absurd (apart j (omega arith) (sym (at_step j y) ∙ sym e ∙ at_last i x))))
+            (λ x. by-same j (suc p.step)
+            (λ y. absurd (apart i (omega arith) (sym (at_step i x) ∙ e ∙ at_last j y)))
+            (λ y. nodes_once i j (omega arith) (omega arith) (sym (at_step i x) ∙ e ∙ at_step j y)))
 
     -- the nearest label that waits is as near as any from which no step went
     pub nearest_all : {l : ℕ} → Nearest p l → far_of p l ≤ℤ p.bound → (k : ℕ) → (Gone p k → ⊥) → far_of p l ≤ℤ far_of p k
@@ -302,17 +318,17 @@ module _ {o : Offers} {s : Seats} {p : Paths} {root : ℕ} (t : Turn o s p.price
   new : Gone p l → ⊥
   new = (v.waits l n.small n.waits).1
 
-  pub step_room : S ≤ root
-  step_room = let z = steps_few t v l n.small f new in omega arith
+  pub step_room : S < 64
+  step_room = let z = steps_few t v l n.small f new in omega (arith, o.nodes.now.few)
 
   pub holder_few : holder < o.nodes.now.count
-  holder_few = omega (arith, (holder_at t l n.small f).0, t.node)
+  holder_few = (holder_at t l n.small f).0.0
 
   pub holder_has : may o holder l
   holder_has =
       let (h, e) = holder_at t l n.small f in
       let g : entry s.taken holder < 64 = omega (arith, n.small) in
-      opens-bit o.nodes.now.sets o.nodes.now.own holder l n.small ∙ ap (bit (entry o.nodes.now.sets holder)) (sym e) ∙ t.linked.inside holder (omega (arith, root_few t)) g
+      opens-bit o.nodes.now.sets o.nodes.now.own holder l n.small ∙ ap (bit (entry o.nodes.now.sets holder)) (sym e) ∙ t.linked.inside holder (placed_few t holder h) g
 
   found_here : (by_of p l < S) × may o (entry p.nodes (by_of p l)) l × (far_of p l ≡ way o p.prices (entry p.nodes (by_of p l)) (v.base (by_of p l)) l)
   found_here = v.found l met_here
@@ -345,7 +361,7 @@ module _ {o : Offers} {s : Seats} {p : Paths} {root : ℕ} (t : Turn o s p.price
 
   module _ (sl : length p.labels ≡ 64) (sn : length p.nodes ≡ 64) where
     room : S < 64
-    room = omega (arith, step_room, root_few t)
+    room = step_room
 
     label_here : entry next.labels S ≡ l
     label_here = get_or-set_same p.labels S l 0 (omega (arith, room))

@@ -1,17 +1,19 @@
 -- After a search, with the prices raised: each node of a step costs least at its label and at those found by it, and the others cost least where they are.
 -- Assumes nothing.
 use mathlib.Core.Path.{◌≡◌, refl, sym, ap, ◌∙◌, subst}
-use mathlib.Core.Bool.{Bool, true}
+use mathlib.Core.Bool.{Bool, true, false}
 use mathlib.Core.List.{List}
 use mathlib.Core.Logic.{◌⊎◌, inl, inr, ⊎_elim}
-use Prim.Native.Nat.{ℕ, zero, suc, ◌+◌, ◌^◌, ◌≤◌, ◌<◌}
+use Prim.Native.Nat.{ℕ, zero, suc, ◌+◌, ◌-◌, ◌^◌, ◌≤◌, ◌<◌}
 use native.Mathlib.Omega.{arith}
 use lib.IntN.{ℤ, pos, ◌+ℤ◌, ◌-ℤ◌, nat_abs}
 use lib.Signed.{◌≤ℤ◌, ◌<ℤ◌}
 use borrow.Author.Tests.{ltb-true, ltb-false}
+use lib.Bits.{bit_xor}
 use lib.Dec.{ltb}
 use lib.ListN.{set, replicate, get_or-replicate}
 use Rattle.integers.specs.Words.{bit}
+use Rattle.integers.proofs.Words.{bit_full, bit_kept}
 use Rattle.integers.proofs.Places.{by-test}
 use Rattle.integers.proofs.Parts.{linear, add, sub, abs, apart}
 use Rattle.integers.proofs.Order.{le_refl}
@@ -19,12 +21,12 @@ use Rattle.assignment.proofs.Counts.{differ, by-same}
 use Rattle.placing.specs.declared.offers.Offers.{Offers}
 use Rattle.placing.specs.declared.paths.Paths.{Paths}
 use Rattle.placing.specs.declared.seats.Seats.{Seats}
-use Rattle.placing.specs.Words.{entry, flag, opens, Joined, Seated}
+use Rattle.placing.specs.Words.{entry, flag, opens, Joined, Seated, Stands, Standing}
 use Rattle.placing.specs.Priced.{price, net, Priced}
 use Rattle.placing.specs.Paths.{paid, may, way, unmet, far_of, by_of, Turn, Gone, Searched, Ended, Raising, RaisedTo, Best, Link, Trace, Opening, Cheapest}
 use Rattle.placing.proofs.Reaching.{price_beyond}
 use Rattle.placing.proofs.Slots.{opens-own}
-use Rattle.placing.proofs.Pathing.{add3, root_few, length_fits, labels_once, step_node}
+use Rattle.placing.proofs.Pathing.{add3, root_few, Placed, placed_few, length_fits, labels_once, step_node}
 use Rattle.placing.proofs.Returning.{from_free, left_back, opened}
 
 -- whether a step went from a label
@@ -144,8 +146,8 @@ module _ {o : Offers} {s : Seats} {p : Paths} {root : ℕ} (t : Turn o s p.price
         let g : by_of p l ≤ p.step = omega arith in
         (g, record { may = a; least = λ j b. between (by_of p l) l j g y n b })
 
-    -- a node below the root costs least where it is
-    least : (u k : ℕ) → u < root → may o u k → net (paid o) q.prices u (entry s.taken u) ≤ℤ net (paid o) q.prices u k
+    -- a node that is placed costs least where it is
+    least : (u k : ℕ) → Placed t u → may o u k → net (paid o) q.prices u (entry s.taken u) ≤ℤ net (paid o) q.prices u k
     least u k h a = by_gone p (entry s.taken u)
         (λ (i, x, g, y).
         let y' = v.steps i x g in
@@ -153,7 +155,7 @@ module _ {o : Offers} {s : Seats} {p : Paths} {root : ℕ} (t : Turn o s p.price
         let w = price p.prices l in
         let c = paid o (entry p.nodes i) l in
         let small : entry s.taken u < 64 = (let n = y'.small in omega arith) in
-        let node : entry p.nodes i ≡ u = y'.node ∙ ap (entry s.holders) y ∙ (t.linked.taker u (omega (arith, root_few t)) small).1 in
+        let node : entry p.nodes i ≡ u = y'.node ∙ ap (entry s.holders) y ∙ (t.linked.taker u (placed_few t u h) small).1 in
         let far : far_of p l ≡ way o p.prices (entry p.nodes i) (v.base i) l = omega (linear, y'.base_is, add3 (v.base i) c w, sub (far_of p l -ℤ w) c, sub (far_of p l) w) in
         let m = between i l k g far (gone_near i x g) (ap (λ (j : ℕ). opens o.nodes.now.sets o.nodes.now.own j k) node ∙ a) in
         subst (λ j. net (paid o) q.prices u j ≤ℤ net (paid o) q.prices u k) y (subst (λ j. net (paid o) q.prices j l ≤ℤ net (paid o) q.prices j k) node m))
@@ -189,21 +191,26 @@ module _ {o : Offers} {s : Seats} {p : Paths} {root : ℕ} (t : Turn o s p.price
     pub trace : Trace o.nodes.now.sets o.nodes.now.own (paid o) q
     trace = subst (Trace o.nodes.now.sets o.nodes.now.own (paid o)) raised_is trace_raised
 
-    still : (i j : ℕ) → i ≤ p.step → 0 < j → j ≤ i → (entry p.nodes j < entry p.nodes 0) × (entry s.taken (entry p.nodes j) ≡ entry p.labels j)
-    still i j h a b = let (x, y) = step_node t v j a (omega arith) in (omega (arith, v.root_node), y)
+    still : (i j : ℕ) → i ≤ p.step → 0 < j → j ≤ i → Placed t (entry p.nodes j) × (entry s.taken (entry p.nodes j) ≡ entry p.labels j)
+    still i j h a b = step_node t v j a (omega arith)
 
-    root_room : entry p.nodes 0 < 64
-    root_room = omega (arith, v.root_node, root_few t)
+    root_node : entry p.nodes 0 < o.nodes.now.count
+    root_node = rw v.root_node t.node
+
+    root_waits : bit t.out (entry p.nodes 0) ≡ true
+    root_waits = rw v.root_node t.waits
 
     -- it ended at a free label
-    opening_raised : end < 64 → bit s.free end ≡ true → Opening o.nodes.now.sets o.nodes.now.own (paid o) raised s.taken s.free end
+    opening_raised : end < 64 → bit s.free end ≡ true → Opening o.nodes.now.count t.out o.nodes.now.sets o.nodes.now.own (paid o) raised s.taken s.free end
     unfolding by_of
     opening_raised h f =
         let l = link_raised end e.met (le_refl z) in
         record {
-          root = root_room;
-          seated = rw v.root_node t.seated;
-          least = λ u k a b. least u k (omega (arith, v.root_node)) b;
+          few = o.nodes.now.few;
+          node = root_node;
+          waits = root_waits;
+          seated = t.seated;
+          least = least;
           idle = λ x a b _. idle x a b;
           small = h;
           here = f;
@@ -211,8 +218,8 @@ module _ {o : Offers} {s : Seats} {p : Paths} {root : ℕ} (t : Turn o s p.price
           still = λ j a b. still (by_of p end) j l.0 a b;
         }
 
-    pub opening : end < 64 → bit s.free end ≡ true → Opening o.nodes.now.sets o.nodes.now.own (paid o) q s.taken s.free end
-    opening h f = subst (λ w. Opening o.nodes.now.sets o.nodes.now.own (paid o) w s.taken s.free end) raised_is (opening_raised h f)
+    pub opening : end < 64 → bit s.free end ≡ true → Opening o.nodes.now.count t.out o.nodes.now.sets o.nodes.now.own (paid o) q s.taken s.free end
+    opening h f = subst (λ w. Opening o.nodes.now.count t.out o.nodes.now.sets o.nodes.now.own (paid o) w s.taken s.free end) raised_is (opening_raised h f)
 
     -- it ended at 255
     module _ (last : end ≡ 255) where
@@ -221,48 +228,48 @@ module _ {o : Offers} {s : Seats} {p : Paths} {root : ℕ} (t : Turn o s p.price
           (subst (λ l. (by_of p l ≤ p.step) × Best o.nodes.now.sets o.nodes.now.own (paid o) q.prices (entry p.nodes (by_of p l)) l) last (link_at end e.met (le_refl z)))
 
       -- over no other node: the root has it, and takes no label
-      pub settled_home : 0 ≡ by_of p 255 → Cheapest (root + 1) o.nodes.now.sets o.nodes.now.own (paid o) s.taken s.free q.prices
+      pub settled_home : 0 ≡ by_of p 255 → Cheapest o.nodes.now.count (bit_xor t.out (2 ^ root)) o.nodes.now.sets o.nodes.now.own (paid o) s.taken s.free q.prices
       settled_home b =
           let best = rw v.root_node at (best_home b).1 in
-          let at = t.seated.later root (omega arith) (root_few t) in
+          let at = t.seated.later root (root_few t) (λ d. differ t.waits d.1) in
           record {
             seated = record {
               seat = λ u h g. by-same u root
                   (λ x. (ap (entry s.taken) x ∙ at, ap (flag o.nodes.now.own) x ∙ sym (opens-own o.nodes.now.sets o.nodes.now.own root) ∙ best.may))
-                  (λ d. t.seated.seat u (omega arith) g);
-              later = λ u h g. t.seated.later u (omega arith) g;
-              vacant = λ u h g. absurd (omega arith);
+                  (λ d. t.seated.seat u (before u d h) g);
+              later = λ u h g. by-same u root (λ x. ap (entry s.taken) x ∙ at) (λ d. t.seated.later u h (λ y. g (y.0, bit_kept t.out root u d ∙ y.1)));
             };
             least = λ u k h a. by-same u root
                 (λ x. subst (λ y. net (paid o) q.prices y (entry s.taken y) ≤ℤ net (paid o) q.prices y k) (sym x) (rw at (best.least k (ap (λ (y : ℕ). opens o.nodes.now.sets o.nodes.now.own y k) (sym x) ∙ a))))
-                (λ d. least u k (omega arith) a);
+                (λ d. least u k (before u d h) a);
             idle = idle;
           }
+        where
+          before : (u : ℕ) → (u ≡ root → ⊥) → Stands o.nodes.now.count (bit_xor t.out (2 ^ root)) u → Placed t u
+          before u d (x, y) = (x, sym (bit_kept t.out root u d) ∙ y)
 
       -- over another node: it leaves its label
       module _ {i : ℕ} (b : i ≡ by_of p 255) (some : 0 < i) where
         pub leaver_few : entry p.nodes i < 64
-        leaver_few = omega (arith, (step_node t v i some (best_home b).0).0, root_few t)
+        leaver_few = placed_few t (entry p.nodes i) (step_node t v i some (best_home b).0).0
 
         pub leaver_step : i < 64
         leaver_step = omega (arith, (best_home b).0, v.few)
 
         home_raised : {left : ℕ} → Joined s.free (entry s.taken (entry p.nodes i)) left
-            → Opening o.nodes.now.sets o.nodes.now.own (paid o) raised (set s.taken (entry p.nodes i) 255) left (entry p.labels i)
+            → Opening o.nodes.now.count t.out o.nodes.now.sets o.nodes.now.own (paid o) raised (set s.taken (entry p.nodes i) 255) left (entry p.labels i)
         home_raised {left} joined =
             let g = (best_home b).0 in
-            let seated = subst (λ k. Seated o.nodes.now.own 64 k s.taken) (sym v.root_node) t.seated in
-            let low = (λ (u j : ℕ) (h : u < entry p.nodes 0) (a : may o u j). least u j (omega (arith, v.root_node)) a) in
-            opened trace_raised t.linked root_room seated low some g (λ j x y. still i j g x y) joined (best_home b).1 (λ _. refl) refl
-            (from_free trace_raised t.linked root_room seated low some g (λ j x y. still i j g x y) joined)
-            (λ x h f d. idle x h (left_back trace_raised t.linked root_room seated low some g (λ j x y. still i j g x y) joined x h d f))
+            opened trace_raised t.linked o.nodes.now.few root_node root_waits t.seated least some g (λ j x y. still i j g x y) joined (best_home b).1 (λ _. refl) refl
+            (from_free trace_raised t.linked o.nodes.now.few root_node root_waits t.seated least some g (λ j x y. still i j g x y) joined)
+            (λ x h f d. idle x h (left_back trace_raised t.linked o.nodes.now.few root_node root_waits t.seated least some g (λ j x y. still i j g x y) joined x h d f))
 
         pub opening_home : {left : ℕ} → Joined s.free (entry s.taken (entry p.nodes i)) left
-            → Opening o.nodes.now.sets o.nodes.now.own (paid o) q (set s.taken (entry p.nodes i) 255) left (entry p.labels i)
-        opening_home {left} joined = subst (λ w. Opening o.nodes.now.sets o.nodes.now.own (paid o) w (set s.taken (entry p.nodes i) 255) left (entry p.labels i)) raised_is (home_raised joined)
+            → Opening o.nodes.now.count t.out o.nodes.now.sets o.nodes.now.own (paid o) q (set s.taken (entry p.nodes i) 255) left (entry p.labels i)
+        opening_home {left} joined = subst (λ w. Opening o.nodes.now.count t.out o.nodes.now.sets o.nodes.now.own (paid o) w (set s.taken (entry p.nodes i) 255) left (entry p.labels i)) raised_is (home_raised joined)
 
     -- the nodes placed then, with the prices
-    pub settled_priced : {taken : List ℕ} {free : ℕ} → Cheapest (root + 1) o.nodes.now.sets o.nodes.now.own (paid o) taken free q.prices → Priced (root + 1) o.nodes.now.sets o.nodes.now.own (paid o) taken free q.prices
+    pub settled_priced : {taken : List ℕ} {free : ℕ} → Cheapest o.nodes.now.count (bit_xor t.out (2 ^ root)) o.nodes.now.sets o.nodes.now.own (paid o) taken free q.prices → Priced (Stands o.nodes.now.count (bit_xor t.out (2 ^ root))) o.nodes.now.sets o.nodes.now.own (paid o) taken free q.prices
     settled_priced m = record { size = r.size; floor = prices_floor; top = prices_top; least = m.least; idle = m.idle }
 
 -- ---- no node is placed
@@ -272,14 +279,30 @@ no_prices l = by-test (ltb l 64)
     (λ h. get_or-replicate 64 l (pos 0) (pos 0) (ltb-true l 64 h))
     (λ h. price_beyond (replicate 64 (pos 0)) l refl (ltb-false l 64 h))
 
-pub seated_none : (own : List Bool) {taken : List ℕ} → ((u : ℕ) → u < 64 → entry taken u ≡ 255) → Seated own 64 0 taken
-seated_none own f = record { seat = λ u h g. absurd (omega arith); later = λ u h g. f u g; vacant = λ u h g. absurd (omega arith) }
+-- no node stands
+pub none_stands : {n : ℕ} → n ≤ 64 → (u : ℕ) → Stands n (2 ^ 64 - 1) u → ⊥
+none_stands h u (a, b) = differ (bit_full u (omega arith)) b
 
-pub priced_none : (sets : List ℕ) (own : List Bool) (c : ℕ → ℕ → ℤ) (taken : List ℕ) (free : ℕ) → Priced 0 sets own c taken free (replicate 64 (pos 0))
-priced_none sets own c taken free = record {
+pub standing_none : {n : ℕ} → n ≤ 64 → (own : List Bool) {taken : List ℕ} → ((u : ℕ) → u < 64 → entry taken u ≡ 255) → Standing own n (2 ^ 64 - 1) taken
+standing_none few own f = record { seat = λ u h g. absurd (none_stands few u h); later = λ u h g. f u h }
+
+pub priced_none : {D : ℕ → Type 0} → ((u : ℕ) → D u → ⊥) → (sets : List ℕ) (own : List Bool) (c : ℕ → ℕ → ℤ) (taken : List ℕ) (free : ℕ) → Priced D sets own c taken free (replicate 64 (pos 0))
+priced_none none sets own c taken free = record {
   size = refl;
   floor = λ l. let e = no_prices l in omega (linear, e);
   top = λ l. rw (no_prices l) (omega arith);
-  least = λ u k h. absurd (omega arith);
+  least = λ u k h. absurd (none u h);
   idle = λ l h f. no_prices l;
 }
+
+-- all stand
+module _ (n out : ℕ) (all : (u : ℕ) → u < n → bit out u ≡ false) where
+  pub standing_all : {own : List Bool} {taken : List ℕ} → Standing own n out taken → Seated own 64 n taken
+  standing_all s = record {
+    seat = λ u h g. s.seat u (h, all u h) g;
+    later = λ u h g. s.later u g (λ d. omega (arith, d.0));
+    vacant = λ u h g. absurd (omega arith);
+  }
+
+  pub priced_all : {sets : List ℕ} {own : List Bool} {c : ℕ → ℕ → ℤ} {taken : List ℕ} {free : ℕ} {prices : List ℤ} → Priced (Stands n out) sets own c taken free prices → Priced (λ u. u < n) sets own c taken free prices
+  priced_all p = record { size = p.size; floor = p.floor; top = p.top; least = λ u k h a. p.least u k (h, all u h) a; idle = p.idle }

@@ -54,7 +54,7 @@ module _ (n : ℕ) (sets : List ℕ) (own : List Bool) (c : ℕ → ℕ → ℤ)
 
 -- ---- prices that balance a placing, in words: the placings that they balance are those on tight cells that take all labels with a price
 
-module _ {n : ℕ} {sets : List ℕ} {own : List Bool} {c : ℕ → ℕ → ℤ} {taken : List ℕ} {free : ℕ} {prices : List ℤ} (few : n ≤ 64) (p : Priced n sets own c taken free prices)
+module _ {n : ℕ} {sets : List ℕ} {own : List Bool} {c : ℕ → ℕ → ℤ} {taken : List ℕ} {free : ℕ} {prices : List ℤ} (few : n ≤ 64) (p : Priced (λ u. u < n) sets own c taken free prices)
     {holders reach : List ℕ} (k : Linked sets taken holders reach free) {since : ℕ} (s : Seated own since n taken) where
   abbrev I' : Rows
   I' = rows_of n sets own
@@ -124,7 +124,7 @@ module _ {n : ℕ} {sets : List ℕ} {own : List Bool} {c : ℕ → ℕ → ℤ}
 
 -- ---- the same tables, for the search on tight cells
 
-module _ {n : ℕ} {sets : List ℕ} {own : List Bool} {c : ℕ → ℕ → ℤ} {taken : List ℕ} {free : ℕ} {prices : List ℤ} (few : n ≤ 64) (p : Priced n sets own c taken free prices)
+module _ {n : ℕ} {sets : List ℕ} {own : List Bool} {c : ℕ → ℕ → ℤ} {taken : List ℕ} {free : ℕ} {prices : List ℤ} (few : n ≤ 64) (p : Priced (λ u. u < n) sets own c taken free prices)
     {holders reach : List ℕ} (k : Linked sets taken holders reach free) {since : ℕ} (s : Seated own since n taken) where
   pub takes_own : (u : ℕ) → u < n → opens sets own u (entry taken u) ≡ true
   takes_own u h = (placed few p k s).allowed u h
@@ -198,7 +198,7 @@ pub none_assigned : {I : Instance} → Proper I → {sets : List ℕ} {own : Lis
 none_assigned {I} proper laid c f = assignment_none I c (λ x m. f (λ u. I.label (chosen I x u)) (matching_placed proper laid m))
 
 module _ {I : Instance} (proper : Proper I) (few : I.node_count ≤ 64) {sets : List ℕ} {own : List Bool} (laid : Laid I I.node_count sets own) (costs : List ℤ)
-    {taken : List ℕ} {free : ℕ} {prices : List ℤ} (p : Priced I.node_count sets own (cost_at I sets costs) taken free prices)
+    {taken : List ℕ} {free : ℕ} {prices : List ℤ} (p : Priced (λ u. u < I.node_count) sets own (cost_at I sets costs) taken free prices)
     {holders reach : List ℕ} (k : Linked sets taken holders reach free) {since : ℕ} (s : Seated own since I.node_count taken)
     {sets' : List ℕ} {own' : List Bool} (t : Tight I.node_count sets own (cost_at I sets costs) taken prices sets' own') {idle : ℕ} (z : Unpriced prices idle) where
   pub found_assigned : {q : ℕ → ℕ} → First (Full I.node_count sets' own' idle) I.node_count q → assignment I (node_costs costs) ≡ some (ranks I.node_count sets q)

@@ -5,7 +5,7 @@ use Rattle.instance.specs.Sheet.{instance_of}
 use Rattle.placing.specs.declared.offers.Offers.{Offers}
 use Rattle.placing.specs.declared.paths.Paths.{Paths}
 use Rattle.placing.specs.declared.seats.Seats.{Seats}
-use Rattle.placing.specs.Words.{entry, opens, Linked, Seated}
+use Rattle.placing.specs.Words.{entry, opens, Linked, Stands, Standing}
 use Rattle.placing.specs.Priced.{cost_at, price, net, Priced}
 
 -- what node u pays for its label l, and whether it has that
@@ -104,12 +104,14 @@ Chosen p l = ((l ≡ 64) × ((k : ℕ) → bit p.waiting k ≡ true → p.bound 
 
 -- ---- a search
 
--- the nodes below the root are placed at least cost by the prices, and it is the root's turn
+-- the nodes that are not of `out` are placed at least cost by the prices, and it is the turn of the root, which is of it
 pub record Turn (o : Offers) (s : Seats) (prices : List ℤ) (root : ℕ) : Type 0 where
+  pub out : ℕ
   pub node : root < o.nodes.now.count
+  pub waits : bit out root ≡ true
   pub linked : Linked o.nodes.now.sets s.taken s.holders s.reach s.free
-  pub seated : Seated o.nodes.now.own 64 root s.taken
-  pub priced : Priced root o.nodes.now.sets o.nodes.now.own (paid o) s.taken s.free prices
+  pub seated : Standing o.nodes.now.own o.nodes.now.count out s.taken
+  pub priced : Priced (Stands o.nodes.now.count out) o.nodes.now.sets o.nodes.now.own (paid o) s.taken s.free prices
 
 -- a step went from the label
 abbrev pub Gone : Paths → ℕ → Type 0
@@ -200,19 +202,21 @@ pub record Trace (sets : List ℕ) (own : List Bool) (c : ℕ → ℕ → ℤ) (
   pub once : (i j : ℕ) → 0 < i → i < j → j ≤ p.step → entry p.labels i ≡ entry p.labels j → ⊥
   pub links : (i : ℕ) → 0 < i → i ≤ p.step → Link sets own c p (entry p.labels i)
 
--- The nodes below the root are placed at least cost, and the label l is free; the nodes of the steps up to the one by which it was found are where they were.
-pub record Opening (sets : List ℕ) (own : List Bool) (c : ℕ → ℕ → ℤ) (p : Paths) (taken : List ℕ) (free l : ℕ) : Type 0 where
-  pub root : entry p.nodes 0 < 64
-  pub seated : Seated own 64 (entry p.nodes 0) taken
-  pub least : (u k : ℕ) → u < entry p.nodes 0 → opens sets own u k ≡ true → net c p.prices u (entry taken u) ≤ℤ net c p.prices u k
+-- The nodes below n that are not of `out` are placed at least cost, the root is of it, and the label l is free; the nodes of the steps up to the one by which it was found are where they were.
+pub record Opening (n out : ℕ) (sets : List ℕ) (own : List Bool) (c : ℕ → ℕ → ℤ) (p : Paths) (taken : List ℕ) (free l : ℕ) : Type 0 where
+  pub few : n ≤ 64
+  pub node : entry p.nodes 0 < n
+  pub waits : bit out (entry p.nodes 0) ≡ true
+  pub seated : Standing own n out taken
+  pub least : (u k : ℕ) → Stands n out u → opens sets own u k ≡ true → net c p.prices u (entry taken u) ≤ℤ net c p.prices u k
   pub idle : (x : ℕ) → x < 64 → bit free x ≡ true → (x ≡ l → ⊥) → price p.prices x ≡ pos 0
   pub small : l < 64
   pub here : bit free l ≡ true
   pub link : Link sets own c p l
-  pub still : (i : ℕ) → 0 < i → i ≤ by_of p l → (entry p.nodes i < entry p.nodes 0) × (entry taken (entry p.nodes i) ≡ entry p.labels i)
+  pub still : (i : ℕ) → 0 < i → i ≤ by_of p l → Stands n out (entry p.nodes i) × (entry taken (entry p.nodes i) ≡ entry p.labels i)
 
--- the nodes below n are placed at least cost
-pub record Cheapest (n : ℕ) (sets : List ℕ) (own : List Bool) (c : ℕ → ℕ → ℤ) (taken : List ℕ) (free : ℕ) (prices : List ℤ) : Type 0 where
-  pub seated : Seated own 64 n taken
-  pub least : (u k : ℕ) → u < n → opens sets own u k ≡ true → net c prices u (entry taken u) ≤ℤ net c prices u k
+-- the nodes below n that are not of `out` are placed at least cost
+pub record Cheapest (n out : ℕ) (sets : List ℕ) (own : List Bool) (c : ℕ → ℕ → ℤ) (taken : List ℕ) (free : ℕ) (prices : List ℤ) : Type 0 where
+  pub seated : Standing own n out taken
+  pub least : (u k : ℕ) → Stands n out u → opens sets own u k ≡ true → net c prices u (entry taken u) ≤ℤ net c prices u k
   pub idle : (l : ℕ) → l < 64 → bit free l ≡ true → price prices l ≡ pos 0

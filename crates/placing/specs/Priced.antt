@@ -16,12 +16,12 @@ price prices l = get_or prices l (pos 0)
 abbrev pub net : (ℕ → ℕ → ℤ) → List ℤ → ℕ → ℕ → ℤ
 net c prices u l = c u l +ℤ price prices l
 
--- the nodes below n, each at a label `taken` that costs it least with the prices; a free label has none
-pub record Priced (n : ℕ) (sets : List ℕ) (own : List Bool) (c : ℕ → ℕ → ℤ) (taken : List ℕ) (free : ℕ) (prices : List ℤ) : Type 0 where
+-- the nodes of D, each at a label `taken` that costs it least with the prices; a free label has none
+pub record Priced (D : ℕ → Type 0) (sets : List ℕ) (own : List Bool) (c : ℕ → ℕ → ℤ) (taken : List ℕ) (free : ℕ) (prices : List ℤ) : Type 0 where
   pub size : length prices ≡ 64
   pub floor : (l : ℕ) → pos 0 ≤ℤ price prices l
   pub top : (l : ℕ) → nat_abs (price prices l) ≤ 2 ^ 50
-  pub least : (u k : ℕ) → u < n → opens sets own u k ≡ true → net c prices u (entry taken u) ≤ℤ net c prices u k
+  pub least : (u k : ℕ) → D u → opens sets own u k ≡ true → net c prices u (entry taken u) ≤ℤ net c prices u k
   pub idle : (l : ℕ) → l < 64 → bit free l ≡ true → price prices l ≡ pos 0
 
 -- the cells at which a node pays no more than at its label: `sets'` and `own'` are those of `sets` and `own`

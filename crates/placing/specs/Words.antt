@@ -165,6 +165,15 @@ pub record Seated (own : List Bool) (since m : ℕ) (taken : List ℕ) : Type 0 
   pub later : (u : ℕ) → m ≤ u → u < 64 → entry taken u ≡ 255
   pub vacant : (u : ℕ) → since ≤ u → u < 64 → flag own u ≡ true → entry taken u ≡ 255
 
+-- the nodes below n that are not of the word `out`
+abbrev pub Stands : ℕ → ℕ → ℕ → Type 0
+Stands n out u = (u < n) × (bit out u ≡ false)
+
+-- those are placed: one of them that takes no label below 64 has 255 and takes that; the other nodes take none
+pub record Standing (own : List Bool) (n out : ℕ) (taken : List ℕ) : Type 0 where
+  pub seat : (u : ℕ) → Stands n out u → 64 ≤ entry taken u → (entry taken u ≡ 255) × (flag own u ≡ true)
+  pub later : (u : ℕ) → u < 64 → (Stands n out u → ⊥) → entry taken u ≡ 255
+
 -- ---- the smallest placing
 
 -- `closed` has the labels that the nodes below u take

@@ -62,7 +62,7 @@ module _ (t : In_ok-prices) where
   seated : Seated (nodes begun).own 64 (nodes begun).count s.taken
   seated = t.in_ok-prices.ensures.placed.0
 
-  priced : Priced (nodes begun).count (nodes begun).sets (nodes begun).own c s.taken s.free t.in_ok-prices.prices
+  priced : Priced (λ u. u < (nodes begun).count) (nodes begun).sets (nodes begun).own c s.taken s.free t.in_ok-prices.prices
   priced = t.in_ok-prices.ensures.placed.1
 
 pub tight-tight-requires-clause-taken : goal.tight-tight-requires-clause-taken
@@ -91,8 +91,8 @@ module _ (d : After-smallest_full-taken) where
   b = begun t
 
   module _ (e : (nodes b).count ≡ (I b).node_count) where
-    all_priced : Priced (I b).node_count (nodes b).sets (nodes b).own (c t) (s t).taken (s t).free t.in_ok-prices.prices
-    all_priced = subst (λ n. Priced n (nodes b).sets (nodes b).own (c t) (s t).taken (s t).free t.in_ok-prices.prices) e (priced t)
+    all_priced : Priced (λ u. u < (I b).node_count) (nodes b).sets (nodes b).own (c t) (s t).taken (s t).free t.in_ok-prices.prices
+    all_priced = subst (λ n. Priced (λ u. u < n) (nodes b).sets (nodes b).own (c t) (s t).taken (s t).free t.in_ok-prices.prices) e (priced t)
 
     all_seated : Seated (nodes b).own 64 (I b).node_count (s t).taken
     all_seated = subst (λ n. Seated (nodes b).own 64 n (s t).taken) e (seated t)

@@ -1,10 +1,14 @@
--- `assign_all` meets its contract: the nodes below the root are placed at least cost.
+-- `assign_all` meets its contract: the nodes that are not out are placed at least cost, and none below the root is out.
+use Prim.Native.Nat.{ℕ, ◌<◌}
 use mathlib.Core.Path.{◌≡◌}
-use Rattle.placing.specs.Words.{Seated}
+use mathlib.Core.Bool.{false}
+use Rattle.integers.specs.Words.{bit}
+use Rattle.placing.specs.Words.{Stands, Standing}
 use Rattle.placing.specs.Priced.{Priced}
 use Rattle.placing.specs.Paths.{paid}
 use Rattle.placing.proofs.seats.Seats.assign_all.Given as goal
 
 abbrev pub invariant-loop-root : goal.invariant-loop-root
-invariant-loop-root l = (l.self.nodes.now ≡ l.fn.self.nodes.now) × Seated l.offers.nodes.now.own 64 l.root l.self.taken
-    × Priced l.root l.offers.nodes.now.sets l.offers.nodes.now.own (paid l.offers) l.self.taken l.self.free l.paths.prices
+invariant-loop-root l = (l.self.nodes.now ≡ l.fn.self.nodes.now) × ((u : ℕ) → u < l.root → bit l.out u ≡ false)
+    × Standing l.offers.nodes.now.own l.offers.nodes.now.count l.out l.self.taken
+    × Priced (Stands l.offers.nodes.now.count l.out) l.offers.nodes.now.sets l.offers.nodes.now.own (paid l.offers) l.self.taken l.self.free l.paths.prices

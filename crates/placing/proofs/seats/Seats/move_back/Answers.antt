@@ -26,11 +26,14 @@ module _ (c : At-loop-step) where
   abbrev cost : ℕ → ℕ → ℤ
   cost = c.requires.0
 
-  trace : Trace N.sets N.own cost p
-  trace = c.requires.1
+  abbrev out : ℕ
+  out = c.requires.1
 
-  open_now : Opening N.sets N.own cost p c.loop-step.self.taken c.loop-step.self.free c.loop-step.l
-  open_now = c.loop-step.invariant.2 cost c.requires.1 c.requires.2
+  trace : Trace N.sets N.own cost p
+  trace = c.requires.2
+
+  open_now : Opening N.count out N.sets N.own cost p c.loop-step.self.taken c.loop-step.self.free c.loop-step.l
+  open_now = c.loop-step.invariant.2 cost out c.requires.2 c.requires.3
 
   linked : Linked N.sets c.loop-step.self.taken c.loop-step.self.holders c.loop-step.self.reach c.loop-step.self.free
   linked = subst (λ n. Linked n.sets c.loop-step.self.taken c.loop-step.self.holders c.loop-step.self.reach c.loop-step.self.free) c.loop-step.invariant.0 c.loop-step.self.linked
@@ -65,10 +68,10 @@ next_small c =
 pub loop-step-init : goal.loop-step-init
 loop-step-init c =
     let p = c.args.paths.now in
-    (refl, ap (entry p.by) c.from.ensures ∙ sym (by_small p c.requires.2.small), λ cost t v. v)
+    (refl, ap (entry p.by) c.from.ensures ∙ sym (by_small p c.requires.3.small), λ cost out t v. v)
 
 pub bounds-paths-from : goal.bounds-paths-from
-bounds-paths-from c = let s = c.requires.2.small in omega (arith, c.from.ensures)
+bounds-paths-from c = let s = c.requires.3.small in omega (arith, c.from.ensures)
 
 pub bounds-paths-i : goal.bounds-paths-i
 bounds-paths-i c = let t = (goal.at.bounds-paths-i c).In-loop-step in omega (arith, c.from-i.ensures, room t)
@@ -122,8 +125,8 @@ loop-step-preserved c =
     let s = c.give.new.self in (
       c.give.ensures.same ∙ c.leave.ensures.same ∙ c.loop-step.invariant.0,
       earlier (goal.at.loop-step-preserved c).After-from-in-loop-step,
-      λ cost tr v. subst (Opening N.sets N.own cost c.args.paths.now s.taken s.free) (sym (next (goal.at.loop-step-preserved c).After-from-i))
-          (moved tr (linked (h t)) (c.loop-step.invariant.2 cost tr v) c.loop-step.invariant.1 (some t) (left x)
+      λ cost out tr v. subst (Opening N.count out N.sets N.own cost c.args.paths.now s.taken s.free) (sym (next (goal.at.loop-step-preserved c).After-from-i))
+          (moved tr (linked (h t)) (c.loop-step.invariant.2 cost out tr v) c.loop-step.invariant.1 (some t) (left x)
           (c.give.ensures.taken ∙ ap₂ (λ (t : List ℕ) (u : ℕ). set t u c.loop-step.l) (gone x) (holder y)) c.give.ensures.free),
     )
 
@@ -136,7 +139,7 @@ give-requires-2 c =
     let t = (goal.at.give-requires-2 c).At-loop-step in
     let z = ended (goal.at.give-requires-2 c).After-loop-step in
     let e = c.from-root.ensures in (
-      subst (λ (u : ℕ). u < 64) (sym e) (open_now t).root,
+      subst (λ (u : ℕ). u < 64) (sym e) (let v = open_now t in omega (arith, v.node, v.few)),
       (open_now t).small,
       subst (λ u. 64 ≤ entry c.loop-step.self.taken u) (sym e) (root_away (trace t) (linked t) (open_now t) z),
       (open_now t).here,
@@ -144,7 +147,7 @@ give-requires-2 c =
     )
 
 pub returns-clause-placed : goal.returns-clause-placed
-returns-clause-placed c cost tr v =
+returns-clause-placed c cost out tr v =
     let t = (goal.at.returns-clause-placed c).At-loop-step in
-    moved_done tr (linked t) (c.loop-step.invariant.2 cost tr v) (ended (goal.at.returns-clause-placed c).After-loop-step)
+    moved_done tr (linked t) (c.loop-step.invariant.2 cost out tr v) (ended (goal.at.returns-clause-placed c).After-loop-step)
     (c.give-2.ensures.taken ∙ ap (λ (u : ℕ). set c.loop-step.self.taken u c.loop-step.l) c.from-root.ensures) c.give-2.ensures.free
