@@ -145,10 +145,10 @@ module _ {o : Offers} {s : Seats} {p : Paths} {root : ℕ} (t : Turn o s p.price
             (λ y. nodes_once i j (omega arith) (omega arith) (sym (at_step i x) ∙ e ∙ at_step j y)))
 
     -- the nearest label that waits is as near as any from which no step went
-    pub nearest_all : {l : ℕ} → Nearest p l → far_of p l ≤ℤ p.bound → (k : ℕ) → (Gone p k → ⊥) → far_of p l ≤ℤ far_of p k
+    pub nearest_all : {l : ℕ} → Nearest p l → far_of p l <ℤ p.bound → (k : ℕ) → (Gone p k → ⊥) → far_of p l ≤ℤ far_of p k
     nearest_all {l} n h k d = by-test (lt_z (far_of p k) unmet)
         (λ z. let met : far_of p k <ℤ unmet = omega linear in
-        ⊎_elim (λ w. n.least k w) (λ s. ⊎_elim (λ g. absurd (d g)) (λ y. le_trans h y) s) (v.met k met))
+        ⊎_elim (λ w. n.least k w) (λ s. ⊎_elim (λ g. absurd (d g)) (λ y. omega linear) s) (v.met k met))
         (λ z. let y = (v.waits l n.small n.waits).0 in omega linear)
 
     -- a way but for the label's price is not long
@@ -301,7 +301,10 @@ module _ (o : Offers) (s : Seats) (p : Paths) (root : ℕ) (ef : p.far ≡ repli
 -- ---- a step more
 
 module _ {o : Offers} {s : Seats} {p : Paths} {root : ℕ} (t : Turn o s p.prices root) (v : Searched o s p root (p.step + 1))
-    {l : ℕ} (n : Nearest p l) (f : bit s.free l ≡ false) (home : far_of p l ≤ℤ p.bound) where
+    {l : ℕ} (n : Nearest p l) (near : far_of p l <ℤ p.bound) where
+  held : bit s.free l ≡ false
+  held = v.bounded.held l n.waits
+
   abbrev S : ℕ
   S = p.step + 1
 
@@ -319,14 +322,14 @@ module _ {o : Offers} {s : Seats} {p : Paths} {root : ℕ} (t : Turn o s p.price
   new = (v.waits l n.small n.waits).1
 
   pub step_room : S < 64
-  step_room = let z = steps_few t v l n.small f new in omega (arith, o.nodes.now.few)
+  step_room = let z = steps_few t v l n.small held new in omega (arith, o.nodes.now.few)
 
   pub holder_few : holder < o.nodes.now.count
-  holder_few = (holder_at t l n.small f).0.0
+  holder_few = (holder_at t l n.small held).0.0
 
   pub holder_has : may o holder l
   holder_has =
-      let (h, e) = holder_at t l n.small f in
+      let (h, e) = holder_at t l n.small held in
       let g : entry s.taken holder < 64 = omega (arith, n.small) in
       opens-bit o.nodes.now.sets o.nodes.now.own holder l n.small ∙ ap (bit (entry o.nodes.now.sets holder)) (sym e) ∙ t.linked.inside holder (placed_few t holder h) g
 
@@ -356,7 +359,7 @@ module _ {o : Offers} {s : Seats} {p : Paths} {root : ℕ} (t : Turn o s p.price
     kind = b.kind;
     goal = b.goal ∙ sym (far_next p.goal);
     ends = λ k x. rw (far_next k) (b.ends k x);
-    held = λ k w. by-same k l (λ e. ap (bit s.free) e ∙ f) (λ d. b.held k (sym (bit_kept p.waiting l k d) ∙ w));
+    held = λ k w. by-same k l (λ e. ap (bit s.free) e ∙ held) (λ d. b.held k (sym (bit_kept p.waiting l k d) ∙ w));
   }
 
   module _ (sl : length p.labels ≡ 64) (sn : length p.nodes ≡ 64) where
@@ -412,13 +415,13 @@ module _ {o : Offers} {s : Seats} {p : Paths} {root : ℕ} (t : Turn o s p.price
     step_here : Step o s next base' S
     step_here = record {
       small = rw label_here n.small;
-      held = rw label_here f;
+      held = rw label_here held;
       node = node_here ∙ ap (entry s.holders) (sym label_here);
       met = rw (label_here, far_next l) met_here;
       after = rw (label_here, by_next l) found_here.0;
       base_is = base_here ∙ rw (label_here, node_here, far_next l);
       once = λ j y z q. new (j, y, omega arith, sym (label_before j z) ∙ q ∙ label_here);
-      nearest = λ k d. rw (label_here, far_next l, far_next k) (nearest_all t v n home k (λ (j, y, z, q). d j y (omega arith) (label_before j (omega arith) ∙ q)));
+      nearest = λ k d. rw (label_here, far_next l, far_next k) (nearest_all t v n near k (λ (j, y, z, q). d j y (omega arith) (label_before j (omega arith) ∙ q)));
     }
 
     pub stepped : Searched o s next root S

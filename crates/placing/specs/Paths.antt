@@ -147,8 +147,7 @@ pub record Onward (o : Offers) (s : Seats) (p : Paths) (root l : ℕ) : Type 0 w
   pub turn : Turn o s p.prices root
   pub searched : Searched o s p root (p.step + 1)
   pub nearest : Nearest p l
-  pub held : bit s.free l ≡ false
-  pub home : far_of p l ≤ℤ p.bound
+  pub near : far_of p l <ℤ p.bound
 
 -- it ended at a label, to which there is no way nearer
 pub record Ended (s : Seats) (p : Paths) (l : ℕ) : Type 0 where

@@ -35,8 +35,7 @@ onward c =
       turn = turn (goal.at.In-loop-l c).At-loop-l;
       searched = v;
       nearest = n;
-      held = v.bounded.held c.loop-l.l n.waits;
-      home = omega linear;
+      near = h;
     }
 
 pub go-requires : goal.go-requires

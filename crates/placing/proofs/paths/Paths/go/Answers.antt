@@ -53,16 +53,16 @@ module _ (c : After-at-price) where
   holder = c.from-u.ensures ∙ ap (entry s.holders) c.from.ensures
 
   few : c.from-u.result < o.nodes.now.count
-  few = let e = c.requires.1 in subst (λ u. u < o.nodes.now.count) (sym holder) (holder_few e.turn e.searched e.nearest e.held e.home)
+  few = let e = c.requires.1 in subst (λ u. u < o.nodes.now.count) (sym holder) (holder_few e.turn e.searched e.nearest e.near)
 
   has : may o c.from-u.result l
-  has = let e = c.requires.1 in subst (λ u. may o u l) (sym holder) (holder_has e.turn e.searched e.nearest e.held e.home)
+  has = let e = c.requires.1 in subst (λ u. may o u l) (sym holder) (holder_has e.turn e.searched e.nearest e.near)
 
   room : p.step + 1 < 64
-  room = let e = c.requires.1 in omega (arith, step_room e.turn e.searched e.nearest e.held e.home, root_few e.turn)
+  room = let e = c.requires.1 in omega (arith, step_room e.turn e.searched e.nearest e.near, root_few e.turn)
 
   d_small : nat_abs d ≤ 2 ^ 48
-  d_small = let e = c.requires.1 in omega (arith, length_fits e.turn e.searched l (met_here e.turn e.searched e.nearest e.held e.home) (omega arith), room)
+  d_small = let e = c.requires.1 in omega (arith, length_fits e.turn e.searched l (met_here e.turn e.searched e.nearest e.near) (omega arith), room)
 
   fits : SFits w64 d
   fits = omega (linear, abs d, d_small)
@@ -81,7 +81,7 @@ module _ (c : After-cost-cost) where
   b = d q -ℤ paid (o q) (entry (s q).holders (l q)) (l q)
 
   b_small : nat_abs b ≤ 2 ^ 48
-  b_small = let e = c.requires.1 in omega (arith, onward_fits e.turn e.searched e.nearest e.held e.home, room q)
+  b_small = let e = c.requires.1 in omega (arith, onward_fits e.turn e.searched e.nearest e.near, room q)
 
   b_fits : SFits w64 b
   b_fits = omega (linear, abs b, b_small)
@@ -115,7 +115,7 @@ scan-requires c =
     let t = (goal.at.scan-requires c).After-cost-cost in
     let e = c.requires.1 in (
       record { node = few (q t); step = room (q t); base = rw (base_is t) (omega (arith, b_small t)); prices = e.turn.priced.top },
-      transport (λ j. Bounded c.args.seats.now.free (next c.args.self.now c.args.l (entry c.args.seats.now.holders (sym c.from.ensures j)) (sym c.bit_of.ensures j))) (bounded_next e.turn e.searched e.nearest e.held e.home),
+      transport (λ j. Bounded c.args.seats.now.free (next c.args.self.now c.args.l (entry c.args.seats.now.holders (sym c.from.ensures j)) (sym c.bit_of.ensures j))) (bounded_next e.turn e.searched e.nearest e.near),
     )
 
 pub returns : goal.returns
@@ -124,4 +124,4 @@ returns c root e =
     let w = c.scan.new.self in
     let p = c.args.self.now in
     let r = transport (λ j. Scanned c.args.offers.now (next p c.args.l (entry c.args.seats.now.holders (c.from.ensures j)) (c.bit_of.ensures j)) w (holder (q x) j) (base_is x j)) c.scan.ensures.0 in
-    (r.kept.prices, r.kept.step, stepped_row e.turn e.searched e.nearest e.held e.home (search rules) (search rules) r c.scan.ensures.1)
+    (r.kept.prices, r.kept.step, stepped_row e.turn e.searched e.nearest e.near (search rules) (search rules) r c.scan.ensures.1)
