@@ -135,8 +135,8 @@ module _ {sets taken holders reach : List ℕ} {free : ℕ} (k : Linked sets tak
             (rest (entry taken w) b ∙ rw (f, ne_eqb (entry taken w) (entry taken u) (λ q. d (linked_distinct w u g h b q))), e)
 
 -- a node that takes a label stands
-pub stands_taker : {own : List Bool} {n out : ℕ} {taken : List ℕ} → Standing own n out taken → (u : ℕ) → u < 64 → entry taken u < 64 → Stands n out u
-stands_taker {own} {n} {out} {taken} s u h l =
+pub stands_taker : (n out : ℕ) {own : List Bool} {taken : List ℕ} → Standing (Stands n out) own taken → (u : ℕ) → u < 64 → entry taken u < 64 → Stands n out u
+stands_taker n out {own} {taken} s u h l =
     let away : (Stands n out u → ⊥) → ⊥ = (λ f. let e = s.later u h f in omega arith) in
     by-test (ltb u n)
     (λ a. by-test (bit out u) (λ b. absurd (away (λ (_, y). differ b y))) (λ b. (ltb-true u n a, b)))

@@ -59,7 +59,7 @@ module _ {o : Offers} {s : Seats} {prices : List ℤ} {root : ℕ} (t : Turn o s
 
   -- the holder of a label that is not free: a node that is placed
   pub holder_at : (l : ℕ) → l < 64 → bit s.free l ≡ false → Placed (entry s.holders l) × (entry s.taken (entry s.holders l) ≡ l)
-  holder_at l h f = let (a, b, _) = t.linked.held l h f in (stands_taker t.seated (entry s.holders l) a (omega arith), b)
+  holder_at l h f = let (a, b, _) = t.linked.held l h f in (stands_taker o.nodes.now.count t.out t.seated (entry s.holders l) a (omega arith), b)
 
   -- it pays least there
   pub pays_least : (u l k : ℕ) → Placed u → entry s.taken u ≡ l → may o u k → (paid o u l +ℤ price prices l) ≤ℤ (paid o u k +ℤ price prices k)

@@ -27,7 +27,7 @@ use Rattle.placing.proofs.Slots.{opens-bit, opens-own}
 -- ---- a node leaves its label for another one that costs it least, or for 255: the label of its step is free now
 
 module _ {sets : List ℕ} {own : List Bool} {c : ℕ → ℕ → ℤ} {p : Paths} (tr : Trace sets own c p) {taken holders reach : List ℕ} {free : ℕ} (k : Linked sets taken holders reach free)
-    {n out : ℕ} (few : n ≤ 64) (root : entry p.nodes 0 < n) (waits : bit out (entry p.nodes 0) ≡ true) (seated : Standing own n out taken)
+    (n out : ℕ) (few : n ≤ 64) (root : entry p.nodes 0 < n) (waits : bit out (entry p.nodes 0) ≡ true) (seated : Standing (Stands n out) own taken)
     (least : (u j : ℕ) → Stands n out u → opens sets own u j ≡ true → net c p.prices u (entry taken u) ≤ℤ net c p.prices u j)
     {i : ℕ} (some : 0 < i) (inside : i ≤ p.step)
     (still : (j : ℕ) → 0 < j → j ≤ i → Stands n out (entry p.nodes j) × (entry taken (entry p.nodes j) ≡ entry p.labels j)) where
@@ -116,7 +116,7 @@ module _ {sets : List ℕ} {own : List Bool} {c : ℕ → ℕ → ℤ} {p : Path
     best = subst (λ (j : ℕ). Best sets own c p.prices (entry p.nodes j) l) (sym by) v.link.1
 
     pub move_node : entry p.nodes i < 64
-    move_node = mover_few tr k v.few v.node v.waits v.seated v.least some inside still
+    move_node = mover_few tr k n out v.few v.node v.waits v.seated v.least some inside still
 
     pub move_has : bit (entry sets (entry p.nodes i)) l ≡ true
     move_has = has_lem (entry p.nodes i) best.may
@@ -132,18 +132,18 @@ module _ {sets : List ℕ} {own : List Bool} {c : ℕ → ℕ → ℤ} {p : Path
 
     module _ {left : ℕ} (joined : Joined free (entry taken (entry p.nodes i)) left) where
       pub move_free : bit left l ≡ true
-      move_free = still_left tr k v.few v.node v.waits v.seated v.least some inside still joined l v.small v.here
+      move_free = still_left tr k n out v.few v.node v.waits v.seated v.least some inside still joined l v.small v.here
 
       pub moved : {taken' : List ℕ} {free' : ℕ} → taken' ≡ set (set taken (entry p.nodes i) 255) (entry p.nodes i) l → free' ≡ bit_xor left (2 ^ l) → Opening n out sets own c p taken' free' (entry p.labels i)
       moved {taken'} {free'} et ef =
-          opened tr k v.few v.node v.waits v.seated v.least some inside still joined best (λ h. absurd (let s = v.small in omega arith)) (et ∙ set-set taken (entry p.nodes i) 255 l)
-          (ap (λ (w : ℕ). bit w from') ef ∙ bit_kept left l from' (λ e. differ v.here (ap (bit free) (sym e) ∙ held)) ∙ from_free tr k v.few v.node v.waits v.seated v.least some inside still joined)
+          opened tr k n out v.few v.node v.waits v.seated v.least some inside still joined best (λ h. absurd (let s = v.small in omega arith)) (et ∙ set-set taken (entry p.nodes i) 255 l)
+          (ap (λ (w : ℕ). bit w from') ef ∙ bit_kept left l from' (λ e. differ v.here (ap (bit free) (sym e) ∙ held)) ∙ from_free tr k n out v.few v.node v.waits v.seated v.least some inside still joined)
           (λ x h b d. by-same x l
           (λ e. absurd (differ b (ap (λ (w : ℕ). bit w x) ef ∙ ap (bit (bit_xor left (2 ^ l))) e ∙ bit_dropped left l move_free)))
-          (λ q. v.idle x h (left_back tr k v.few v.node v.waits v.seated v.least some inside still joined x h d (sym (bit_kept left l x q) ∙ ap (λ (w : ℕ). bit w x) (sym ef) ∙ b)) q))
+          (λ q. v.idle x h (left_back tr k n out v.few v.node v.waits v.seated v.least some inside still joined x h d (sym (bit_kept left l x q) ∙ ap (λ (w : ℕ). bit w x) (sym ef) ∙ b)) q))
         where
           held : bit free from' ≡ false
-          held = from_held tr k v.few v.node v.waits v.seated v.least some inside still
+          held = from_held tr k n out v.few v.node v.waits v.seated v.least some inside still
 
   -- no step is left: the root takes it
   module _ (z : by_of p l ≡ 0) where

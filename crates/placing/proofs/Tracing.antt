@@ -260,9 +260,9 @@ module _ {o : Offers} {s : Seats} {p : Paths} {root : ℕ} (t : Turn o s p.price
             → Opening o.nodes.now.count t.out o.nodes.now.sets o.nodes.now.own (paid o) raised (set s.taken (entry p.nodes i) 255) left (entry p.labels i)
         home_raised {left} joined =
             let g = (best_home b).0 in
-            opened trace_raised t.linked o.nodes.now.few root_node root_waits t.seated least some g (λ j x y. still i j g x y) joined (best_home b).1 (λ _. refl) refl
-            (from_free trace_raised t.linked o.nodes.now.few root_node root_waits t.seated least some g (λ j x y. still i j g x y) joined)
-            (λ x h f d. idle x h (left_back trace_raised t.linked o.nodes.now.few root_node root_waits t.seated least some g (λ j x y. still i j g x y) joined x h d f))
+            opened trace_raised t.linked o.nodes.now.count t.out o.nodes.now.few root_node root_waits t.seated least some g (λ j x y. still i j g x y) joined (best_home b).1 (λ _. refl) refl
+            (from_free trace_raised t.linked o.nodes.now.count t.out o.nodes.now.few root_node root_waits t.seated least some g (λ j x y. still i j g x y) joined)
+            (λ x h f d. idle x h (left_back trace_raised t.linked o.nodes.now.count t.out o.nodes.now.few root_node root_waits t.seated least some g (λ j x y. still i j g x y) joined x h d f))
 
         pub opening_home : {left : ℕ} → Joined s.free (entry s.taken (entry p.nodes i)) left
             → Opening o.nodes.now.count t.out o.nodes.now.sets o.nodes.now.own (paid o) q (set s.taken (entry p.nodes i) 255) left (entry p.labels i)
@@ -283,7 +283,7 @@ no_prices l = by-test (ltb l 64)
 pub none_stands : {n : ℕ} → n ≤ 64 → (u : ℕ) → Stands n (2 ^ 64 - 1) u → ⊥
 none_stands h u (a, b) = differ (bit_full u (omega arith)) b
 
-pub standing_none : {n : ℕ} → n ≤ 64 → (own : List Bool) {taken : List ℕ} → ((u : ℕ) → u < 64 → entry taken u ≡ 255) → Standing own n (2 ^ 64 - 1) taken
+pub standing_none : {n : ℕ} → n ≤ 64 → (own : List Bool) {taken : List ℕ} → ((u : ℕ) → u < 64 → entry taken u ≡ 255) → Standing (Stands n (2 ^ 64 - 1)) own taken
 standing_none few own f = record { seat = λ u h g. absurd (none_stands few u h); later = λ u h g. f u h }
 
 pub priced_none : {D : ℕ → Type 0} → ((u : ℕ) → D u → ⊥) → (sets : List ℕ) (own : List Bool) (c : ℕ → ℕ → ℤ) (taken : List ℕ) (free : ℕ) → Priced D sets own c taken free (replicate 64 (pos 0))
@@ -297,7 +297,7 @@ priced_none none sets own c taken free = record {
 
 -- all stand
 module _ (n out : ℕ) (all : (u : ℕ) → u < n → bit out u ≡ false) where
-  pub standing_all : {own : List Bool} {taken : List ℕ} → Standing own n out taken → Seated own 64 n taken
+  pub standing_all : {own : List Bool} {taken : List ℕ} → Standing (Stands n out) own taken → Seated own 64 n taken
   standing_all s = record {
     seat = λ u h g. s.seat u (h, all u h) g;
     later = λ u h g. s.later u g (λ d. omega (arith, d.0));

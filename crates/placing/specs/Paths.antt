@@ -110,7 +110,7 @@ pub record Turn (o : Offers) (s : Seats) (prices : List ℤ) (root : ℕ) : Type
   pub node : root < o.nodes.now.count
   pub waits : bit out root ≡ true
   pub linked : Linked o.nodes.now.sets s.taken s.holders s.reach s.free
-  pub seated : Standing o.nodes.now.own o.nodes.now.count out s.taken
+  pub seated : Standing (Stands o.nodes.now.count out) o.nodes.now.own s.taken
   pub priced : Priced (Stands o.nodes.now.count out) o.nodes.now.sets o.nodes.now.own (paid o) s.taken s.free prices
 
 -- a step went from the label
@@ -206,7 +206,7 @@ pub record Opening (n out : ℕ) (sets : List ℕ) (own : List Bool) (c : ℕ �
   pub few : n ≤ 64
   pub node : entry p.nodes 0 < n
   pub waits : bit out (entry p.nodes 0) ≡ true
-  pub seated : Standing own n out taken
+  pub seated : Standing (Stands n out) own taken
   pub least : (u k : ℕ) → Stands n out u → opens sets own u k ≡ true → net c p.prices u (entry taken u) ≤ℤ net c p.prices u k
   pub idle : (x : ℕ) → x < 64 → bit free x ≡ true → (x ≡ l → ⊥) → price p.prices x ≡ pos 0
   pub small : l < 64
@@ -216,6 +216,6 @@ pub record Opening (n out : ℕ) (sets : List ℕ) (own : List Bool) (c : ℕ �
 
 -- the nodes below n that are not of `out` are placed at least cost
 pub record Cheapest (n out : ℕ) (sets : List ℕ) (own : List Bool) (c : ℕ → ℕ → ℤ) (taken : List ℕ) (free : ℕ) (prices : List ℤ) : Type 0 where
-  pub seated : Standing own n out taken
+  pub seated : Standing (Stands n out) own taken
   pub least : (u k : ℕ) → Stands n out u → opens sets own u k ≡ true → net c prices u (entry taken u) ≤ℤ net c prices u k
   pub idle : (l : ℕ) → l < 64 → bit free l ≡ true → price prices l ≡ pos 0

@@ -169,10 +169,10 @@ pub record Seated (own : List Bool) (since m : ℕ) (taken : List ℕ) : Type 0 
 abbrev pub Stands : ℕ → ℕ → ℕ → Type 0
 Stands n out u = (u < n) × (bit out u ≡ false)
 
--- those are placed: one of them that takes no label below 64 has 255 and takes that; the other nodes take none
-pub record Standing (own : List Bool) (n out : ℕ) (taken : List ℕ) : Type 0 where
-  pub seat : (u : ℕ) → Stands n out u → 64 ≤ entry taken u → (entry taken u ≡ 255) × (flag own u ≡ true)
-  pub later : (u : ℕ) → u < 64 → (Stands n out u → ⊥) → entry taken u ≡ 255
+-- the nodes of D are placed: one of them that takes no label below 64 has 255 and takes that; the other nodes take none
+pub record Standing (D : ℕ → Type 0) (own : List Bool) (taken : List ℕ) : Type 0 where
+  pub seat : (u : ℕ) → D u → 64 ≤ entry taken u → (entry taken u ≡ 255) × (flag own u ≡ true)
+  pub later : (u : ℕ) → u < 64 → (D u → ⊥) → entry taken u ≡ 255
 
 -- ---- the smallest placing
 

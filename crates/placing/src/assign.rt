@@ -38,7 +38,7 @@ impl<'a> Seats<'a> {
         requires { (self.old.nodes.now ≡ offers.now.nodes.now) × Turn offers.now self.old paths.old.prices root }
         ensures same { self.new.nodes.now ≡ self.old.nodes.now }
         ensures placed { MatchOption result ((q : ℕ → ℕ) → All offers.now.nodes.now.count offers.now.nodes.now.sets offers.now.nodes.now.own q → ⊥)
-            (λ _. (t : Turn offers.now self.old paths.old.prices root) → Standing offers.now.nodes.now.own offers.now.nodes.now.count (bit_xor t.out (2 ^ root)) self.new.taken
+            (λ _. (t : Turn offers.now self.old paths.old.prices root) → Standing (Stands offers.now.nodes.now.count (bit_xor t.out (2 ^ root))) offers.now.nodes.now.own self.new.taken
             × Priced (Stands offers.now.nodes.now.count (bit_xor t.out (2 ^ root))) offers.now.nodes.now.sets offers.now.nodes.now.own (paid offers.now) self.new.taken self.new.free paths.new.prices) }
     {
         let end = paths.find_end(self, offers, root)?;

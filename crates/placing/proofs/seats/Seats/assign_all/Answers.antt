@@ -60,7 +60,7 @@ loop-root-preserved c =
           let t = turn x w.if-has.true in
           let p = w.in_ok-place_root.ensures.placed t in
           let oe : c.if-has.out ≡ out = w.out-is ∙ ap (bit_xor c.loop-root.out) w.bit_of-out.ensures in
-          subst (λ (k : ℕ). (c.if-has.self.nodes.now ≡ c.args.self.now.nodes.now) × ((u : ℕ) → u < r + 1 → bit k u ≡ false) × Standing o.nodes.now.own n k c.if-has.self.taken
+          subst (λ (k : ℕ). (c.if-has.self.nodes.now ≡ c.args.self.now.nodes.now) × ((u : ℕ) → u < r + 1 → bit k u ≡ false) × Standing (Stands n k) o.nodes.now.own c.if-has.self.taken
           × Priced (Stands n k) o.nodes.now.sets o.nodes.now.own (paid o) c.if-has.self.taken c.if-has.self.free c.if-has.paths.prices) (sym oe)
           (rw (w.self-is, w.paths-is) (
             w.place_root.ensures.same ∙ e,

@@ -10,5 +10,5 @@ use Rattle.placing.proofs.seats.Seats.assign_all.Given as goal
 
 abbrev pub invariant-loop-root : goal.invariant-loop-root
 invariant-loop-root l = (l.self.nodes.now ≡ l.fn.self.nodes.now) × ((u : ℕ) → u < l.root → bit l.out u ≡ false)
-    × Standing l.offers.nodes.now.own l.offers.nodes.now.count l.out l.self.taken
+    × Standing (Stands l.offers.nodes.now.count l.out) l.offers.nodes.now.own l.self.taken
     × Priced (Stands l.offers.nodes.now.count l.out) l.offers.nodes.now.sets l.offers.nodes.now.own (paid l.offers) l.self.taken l.self.free l.paths.prices

@@ -78,7 +78,7 @@ module _ (c : After-raise) where
       opening_here {taken} {free} {l} v = subst (λ (n : Nodes). Opening n.count w.out n.sets n.own (paid (o h)) q taken free l) (sym same) v
 
       done : {taken : List ℕ} {free : ℕ} → Cheapest n.count (bit_xor w.out (2 ^ entry q.nodes 0)) n.sets n.own (paid (o h)) taken free q.prices
-          → Standing (o h).nodes.now.own (o h).nodes.now.count (bit_xor w.out (2 ^ c.args.root)) taken
+          → Standing (Stands (o h).nodes.now.count (bit_xor w.out (2 ^ c.args.root))) (o h).nodes.now.own taken
           × Priced (Stands (o h).nodes.now.count (bit_xor w.out (2 ^ c.args.root))) (o h).nodes.now.sets (o h).nodes.now.own (paid (o h)) taken free q.prices
       done {taken} {free} m =
           let e = ap (λ (t : List ℕ). entry t 0) raised.stays.nodes ∙ (searched h).root_node in
