@@ -27,3 +27,4 @@ pub mod Ending
 pub mod Raising
 pub mod Returning
 pub mod Tracing
+pub mod Bidding

@@ -10,7 +10,7 @@ use Rattle.instance.specs.declared.sheet.Sheet.{Sheet}
 use Rattle.instance.specs.Instance.{Instance, first}
 use Rattle.instance.specs.Sheet.{instance_of}
 use Rattle.instance.specs.Described.{labels_of}
-use Rattle.instance.proofs.Sheets.{whole, start_is, row_here, degree_few, positions_few, node_there}
+use Rattle.instance.proofs.Sheets.{whole, start_is, row_here, degree_some, degree_few, positions_few, node_there}
 use Rattle.placing.specs.declared.offers.Offers.{Offers}
 use Rattle.placing.specs.Words.{entry, opens, rank}
 use Rattle.placing.specs.Priced.{cost_at}
@@ -62,6 +62,16 @@ module _ (o : Offers) where
           omega (arith, start_is x on_sheet, row_here x on_sheet, o.fit.0),
           paid_is (entry (labels_of x.bytes.now u) k) k (sym (ap (rank (entry o.nodes.now.sets u)) e ∙ o.listed.ranks u k on_sheet d)),
         )
+
+    -- none twice
+    pub row_once : (i j : ℕ) → i < length (labels_of x.bytes.now u) → j < length (labels_of x.bytes.now u) → entry (labels_of x.bytes.now u) i ≡ entry (labels_of x.bytes.now u) j → i ≡ j
+    row_once i j g h e =
+        let n = bytes_long (whole x) (node_there x on_sheet) in
+        let a = bytes_at (whole x) (node_there x on_sheet) in
+        sym (o.listed.ranks u i on_sheet (omega arith)) ∙ ap (rank (entry o.nodes.now.sets u)) (sym (a i g) ∙ e ∙ a j h) ∙ o.listed.ranks u j on_sheet (omega arith)
+
+    pub row_some : 0 < length (labels_of x.bytes.now u)
+    row_some = let n = bytes_long (whole x) (node_there x on_sheet) in omega (arith, degree_some x on_sheet)
 
     pub label_there : (l : ℕ) → may o u l → (k : ℕ) × (k < length (labels_of x.bytes.now u)) × (entry (labels_of x.bytes.now u) k ≡ l)
     label_there l a =

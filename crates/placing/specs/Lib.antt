@@ -8,3 +8,4 @@ pub mod Paths
 pub mod TightRows
 pub mod Assigning
 pub mod Sample
+pub mod Bids

@@ -5,6 +5,7 @@ mod all;
 mod answer;
 mod assign;
 mod assigning;
+mod bids;
 mod filling;
 mod greedy;
 mod lowering;

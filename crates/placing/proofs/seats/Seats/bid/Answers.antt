@@ -1,0 +1,74 @@
+-- `bid` meets its contract: the three outcomes of a bid.
+use Rattle.std.proofs.Common.{rules, ◌≡◌, true, ℕ, ◌+◌, ◌^◌, ◌≤◌, ◌<◌, pos, length, List, ℤ, ◌+ℤ◌, to_z, of_z, to_z-of_z, w64, SFits, arith, refl, sym, ap, ap₂, ◌∙◌, subst, nat_abs, set}
+use Rattle.integers.proofs.Bits.{answer}
+use Rattle.integers.proofs.Parts.{linear, abs}
+use Rattle.integers.specs.Words.{bit}
+use Rattle.placing.specs.declared.offers.Offers.{Offers}
+use Rattle.placing.specs.declared.seats.Seats.{Seats}
+use Rattle.placing.specs.declared.tables.Nodes.{Nodes}
+use Rattle.placing.specs.Words.{entry, Linked}
+use Rattle.placing.specs.Priced.{price}
+use Rattle.placing.specs.Bids.{Choice, Displaced, Aloft}
+use Rattle.placing.proofs.Bidding.{bid_home, give_none, give_has, raised_small, bid_taken}
+use Rattle.placing.proofs.seats.Seats.bid.Goals as goal
+use Rattle.placing.proofs.seats.Seats.bid.Goals.{After-displace-left, After-price_at}
+
+pub returns-then-label-ge64-clause-placed : goal.returns-then-label-ge64-clause-placed
+returns-then-label-ge64-clause-placed c out m h v = bid_home v c.requires.1 c.best_two-bid.ensures c.if-label-ge64.true
+
+-- the label's node has left it
+module _ (t : After-displace-left) where
+  abbrev o : Offers
+  o = t.args.offers.now
+
+  abbrev s : Seats
+  s = t.args.self.now
+
+  abbrev label : ℕ
+  label = t.best_two-bid.result.label
+
+  inside : label < 64
+  inside = omega (arith, t.if-label-ge64.false)
+
+  linked : Linked o.nodes.now.sets s.taken s.holders s.reach s.free
+  linked = subst (λ (n : Nodes). Linked n.sets s.taken s.holders s.reach s.free) t.requires.0 s.linked
+
+  size : length t.displace-left.new.self.taken ≡ 64
+  size = t.displace-left.new.self.linked.size_taken
+
+pub give-requires : goal.give-requires
+give-requires c =
+    let t = (goal.at.give-requires c).After-displace-left in
+    let (_, small, out, m, few, v) = c.requires in
+    let ch = c.best_two-bid.ensures in
+    let d = c.displace-left.ensures.displaced in (
+      small,
+      inside t,
+      give_none v small ch few (inside t) (linked t) d (size t),
+      d.vacant,
+      ap (λ (n : Nodes). bit (entry n.sets c.args.u) (label t)) (c.displace-left.ensures.same ∙ c.requires.0) ∙ give_has v small ch few (inside t) (linked t) d (size t),
+    )
+
+-- its price
+module _ (t : After-price_at) where
+  abbrev d : After-displace-left
+  d = (goal.at.After-price_at t).After-displace-left
+
+  abbrev z : ℤ
+  z = price t.args.prices.now (label d) +ℤ t.best_two-bid.result.raise
+
+  sum_is : to_z w64 (of_z w64 t.price_at.result) +ℤ to_z w64 (of_z w64 t.best_two-bid.result.raise) ≡ z
+  sum_is = ap₂ ◌+ℤ◌ (answer t.price_at.type_inv t.price_at.ensures) (search rules)
+
+  fits : SFits w64 z
+  fits = let (_, small, out, m, few, v) = t.requires in
+      omega (linear, abs z, raised_small v small t.best_two-bid.ensures few (inside d) (linked d) t.displace-left.ensures.displaced (size d))
+
+pub overflow_add-raised : goal.overflow_add-raised
+overflow_add-raised c = let t = (goal.at.overflow_add-raised c).After-price_at in rw (sum_is t) (fits t)
+
+pub returns-clause-placed : goal.returns-clause-placed
+returns-clause-placed c out m h v =
+    let t = (goal.at.returns-clause-placed c).After-price_at in
+    bid_taken v c.requires.1 c.best_two-bid.ensures h (inside (d t)) (linked (d t)) c.displace-left.ensures.displaced (size (d t)) c.give.ensures.taken c.give.ensures.free
+    (ap₂ (λ (i : ℕ) (y : ℤ). set c.args.prices.now i y) c.from.ensures (ap (λ (y : ℤ). to_z w64 (of_z w64 y)) (sum_is t) ∙ to_z-of_z (fits t)))
