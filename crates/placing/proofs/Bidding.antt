@@ -1,17 +1,17 @@
 -- Bids: what a node bids, and that the nodes placed stay where they cost least.
 -- Assumes nothing.
 use mathlib.Core.Path.{◌≡◌, refl, sym, ap, ◌∙◌, subst}
-use mathlib.Core.Bool.{Bool, true, false, cond, ◌||◌}
+use mathlib.Core.Bool.{Bool, true, cond}
 use mathlib.Core.List.{List}
 use mathlib.Core.Logic.{◌⊎◌, inl, inr, ⊎_elim}
-use Prim.Native.Nat.{ℕ, ◌+◌, ◌*◌, ◌^◌, ◌≤◌, ◌<◌}
+use Prim.Native.Nat.{ℕ, ◌+◌, ◌-◌, ◌*◌, ◌^◌, ◌≤◌, ◌<◌}
 use native.Mathlib.Omega.{arith}
 use borrow.Author.Tests.{ne_eqb, eqb-false, ltb-true, ltb-false}
 use lib.Bits.{bit_xor}
 use lib.Dec.{eqb, ltb}
 use lib.IntN.{ℤ, pos, ◌+ℤ◌, ◌-ℤ◌, nat_abs}
 use lib.Signed.{◌≤ℤ◌, ◌<ℤ◌, lt_z}
-use lib.ListN.{length, get_or, set, length-set}
+use lib.ListN.{length, get_or, set, replicate, length-set}
 use lib.Seq.{get_or-set_same, get_or-set_other}
 use Rattle.integers.specs.Words.{bit}
 use Rattle.integers.proofs.Words.{bit_dropped, bit_kept}
@@ -27,6 +27,7 @@ use Rattle.placing.specs.Bids.{Choice, Displaced, UpTo, Others, Aloft, Landed}
 use Rattle.placing.proofs.Searching.{or_fails}
 use Rattle.placing.proofs.Offering.{paid_within}
 use Rattle.placing.proofs.Slots.{opens_kinds, opens-bit, opens-own}
+use Rattle.placing.proofs.Tracing.{no_prices, none_stands, standing_none, priced_none}
 
 -- ---- the two least of a row: the first k of its labels f
 
@@ -119,8 +120,11 @@ two_done {o} {prices} {u} {f} {k} {label} {least} {second} t has all once {raise
       (λ z. let met' : second <ℤ unmet = omega linear in
       let (j, h, d, e) = t.met met' in
       inl (f j, has j h, (λ q. d (once j t.best h t.inside (q ∙ t.label_is))), omega (linear, sum met', e)))
-      (λ z. inr ((λ l m. let (j, h, e) = all l m in
-      by-same l label (λ q. q) (λ d. let y = other l j h e d in let w = met l y in absurd (omega linear))), high (omega linear)));
+      (λ z. inr (
+        (λ l m. let (j, h, e) = all l m in
+            by-same l label (λ q. q) (λ d. let y = other l j h e d in let w = met l y in absurd (omega linear))),
+        high (omega linear),
+      ));
 }
   where
     other : (l j : ℕ) → j < k → f j ≡ l → (l ≡ label → ⊥) → second ≤ℤ net (paid o) prices u l
@@ -392,3 +396,15 @@ module _ {o : Offers} {taken : List ℕ} {free : ℕ} {prices : List ℤ} where
       back x (l, e) =
           let (f, g) = or_fails (bit out x) (eqb x a) (sym (j.1 x (omega (arith, l, o.nodes.now.few))) ∙ e) in
           ((l, f), eqb-false x a g)
+
+  -- more bids are allowed for
+  pub landed_more : {out m : ℕ} (m' : ℕ) → m ≤ m' → Landed o taken free prices out m → Landed o taken free prices out m'
+  landed_more m' h v = record { seated = v.seated; priced = v.priced; bound = upto_more prices h v.bound }
+
+-- no node has bidden
+pub landed_none : (o : Offers) (taken : List ℕ) (free : ℕ) → ((u : ℕ) → u < 64 → entry taken u ≡ 255) → Landed o taken free (replicate 64 (pos 0)) (2 ^ 64 - 1) 0
+landed_none o taken free f = record {
+  seated = standing_none o.nodes.now.few o.nodes.now.own f;
+  priced = priced_none (none_stands o.nodes.now.few) o.nodes.now.sets o.nodes.now.own (paid o) taken free;
+  bound = λ l. rw (no_prices l) (omega arith);
+}

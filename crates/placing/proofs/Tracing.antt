@@ -274,7 +274,7 @@ module _ {o : Offers} {s : Seats} {p : Paths} {root : ℕ} (t : Turn o s p.price
 
 -- ---- no node is placed
 
-no_prices : (l : ℕ) → price (replicate 64 (pos 0)) l ≡ pos 0
+pub no_prices : (l : ℕ) → price (replicate 64 (pos 0)) l ≡ pos 0
 no_prices l = by-test (ltb l 64)
     (λ h. get_or-replicate 64 l (pos 0) (pos 0) (ltb-true l 64 h))
     (λ h. price_beyond (replicate 64 (pos 0)) l refl (ltb-false l 64 h))

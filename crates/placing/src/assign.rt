@@ -54,7 +54,7 @@ impl<'a> Seats<'a> {
         Some(())
     }
 
-    // Places all nodes at least total cost, and answers prices of the labels that show it; none if not all can be placed.
+    // Places all nodes at least total cost, most by bids and the rest by searches, and answers prices of the labels that show it; none if not all can be placed.
     pub(crate) fn assign_all(&mut self, offers: &Offers) -> Option<[i64; 64]>
         requires { (self.old.nodes.now ≡ offers.now.nodes.now) × ((u : ℕ) → u < 64 → entry self.old.taken u ≡ 255) }
         ensures same { self.new.nodes.now ≡ self.old.nodes.now }
@@ -62,7 +62,7 @@ impl<'a> Seats<'a> {
             (λ prices. Seated offers.now.nodes.now.own 64 offers.now.nodes.now.count self.new.taken × Priced (λ u. u < offers.now.nodes.now.count) offers.now.nodes.now.sets offers.now.nodes.now.own (paid offers.now) self.new.taken self.new.free prices) }
     {
         let mut paths = Paths::new();
-        let mut out = u64::MAX;
+        let mut out = self.bid_all(offers, &mut paths.prices);
         for root in 0..self.nodes.count {
             // Kept: a node is below 64, as in `Seats`.
             let node = root as u8;

@@ -1,7 +1,7 @@
 -- `best_two` meets its contract: each turn is one of `Two`.
-use Rattle.std.proofs.Common.{rules, ◌≡◌, true, false, ℕ, ◌+◌, ◌^◌, ◌≤◌, ◌<◌, ◌≤ℤ◌, ◌<ℤ◌, pos, length, List, ℤ, ◌+ℤ◌, ◌-ℤ◌, to_z, of_z, to_z-of_z, w64, SFits, arith, refl, sym, ap, ap₂, ◌∙◌, subst, get_or, nat_abs}
+use Rattle.std.proofs.Common.{◌≡◌, ℕ, ◌+◌, ◌≤◌, ◌<◌, ◌≤ℤ◌, ◌<ℤ◌, pos, length, List, ℤ, ◌+ℤ◌, ◌-ℤ◌, to_z, of_z, to_z-of_z, w64, SFits, arith, refl, sym, ap, ap₂, ◌∙◌, subst, get_or}
 use Rattle.integers.proofs.Bits.{answer}
-use Rattle.integers.proofs.Parts.{linear, add, sub, abs, parts}
+use Rattle.integers.proofs.Parts.{linear, add, abs, parts}
 use Rattle.instance.specs.Described.{labels_of}
 use Rattle.placing.specs.declared.offers.Offers.{Offers}
 use Rattle.placing.specs.Words.{entry}

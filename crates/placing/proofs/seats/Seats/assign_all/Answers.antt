@@ -1,6 +1,6 @@
 -- `assign_all` meets its contract: the nodes that are not out are placed at least cost, and none below the root is out.
-use Prim.Native.Nat.{ℕ, ◌+◌, ◌-◌, ◌^◌, ◌<◌}
-use mathlib.Core.Path.{◌≡◌, refl, sym, ap, ◌∙◌, subst}
+use Prim.Native.Nat.{ℕ, ◌+◌, ◌^◌, ◌<◌}
+use mathlib.Core.Path.{◌≡◌, sym, ap, ◌∙◌, subst}
 use mathlib.Core.Bool.{true, false}
 use native.Mathlib.Omega.{arith}
 use lib.Bits.{bit_xor}
@@ -11,23 +11,18 @@ use Rattle.placing.specs.declared.tables.Nodes.{Nodes}
 use Rattle.placing.specs.Words.{Linked, Stands, Standing}
 use Rattle.placing.specs.Priced.{Priced}
 use Rattle.placing.specs.Paths.{paid, Turn}
-use Rattle.placing.proofs.Tracing.{none_stands, standing_none, priced_none, standing_all, priced_all}
+use Rattle.placing.proofs.Tracing.{standing_all, priced_all}
 use Rattle.placing.proofs.seats.Seats.assign_all.Goals as goal
 use Rattle.placing.proofs.seats.Seats.assign_all.Goals.{In-loop-root, After-has, then-has+in_ok-place_root, else-has}
 
+pub bid_all-out-requires : goal.bid_all-out-requires
+bid_all-out-requires c = (c.requires.0, c.requires.1, c.new-paths.ensures)
+
 pub loop-root-init : goal.loop-root-init
-loop-root-init c =
-    let o = c.args.offers.now in
-    let s = c.args.self.now in
-    let none = none_stands o.nodes.now.few in (
-      refl,
-      (λ u h. absurd (omega arith)),
-      standing_none o.nodes.now.few o.nodes.now.own c.requires.1,
-      subst (Priced (Stands o.nodes.now.count (2 ^ 64 - 1)) o.nodes.now.sets o.nodes.now.own (paid o) s.taken s.free) (sym c.new-paths.ensures) (priced_none none o.nodes.now.sets o.nodes.now.own (paid o) s.taken s.free),
-    )
+loop-root-init c = let v = c.bid_all-out.ensures.placed in (c.bid_all-out.ensures.same, (λ u h. absurd (omega arith)), v.seated, v.priced)
 
 inside : (c : In-loop-root) → c.loop-root.root < c.args.offers.now.nodes.now.count
-inside c = subst (λ (n : Nodes). c.loop-root.root < n.count) c.requires.0 c.loop-root-test.true
+inside c = subst (λ (n : Nodes). c.loop-root.root < n.count) (c.bid_all-out.ensures.same ∙ c.requires.0) c.loop-root-test.true
 
 -- the turn of a node that is out
 abbrev turn : (c : After-has) → c.has.result ≡ true → Turn c.args.offers.now c.loop-root.self c.loop-root.paths.prices c.loop-root.root
@@ -76,5 +71,5 @@ pub returns-clause-placed : goal.returns-clause-placed
 returns-clause-placed c =
     let (e, low, seated, priced) = c.loop-root.invariant in
     let n = c.args.offers.now.nodes.now.count in
-    let all = (λ (u : ℕ) (h : u < n). low u (omega (arith, c.loop-root.auto, c.loop-root-test.false, ap (λ (n : Nodes). n.count) c.requires.0))) in
+    let all = (λ (u : ℕ) (h : u < n). low u (omega (arith, c.loop-root.auto, c.loop-root-test.false, ap (λ (n : Nodes). n.count) (c.bid_all-out.ensures.same ∙ c.requires.0)))) in
     (standing_all n c.loop-root.out all seated, priced_all n c.loop-root.out all priced)

@@ -1,5 +1,5 @@
 -- `bid` meets its contract: the three outcomes of a bid.
-use Rattle.std.proofs.Common.{rules, ◌≡◌, true, ℕ, ◌+◌, ◌^◌, ◌≤◌, ◌<◌, pos, length, List, ℤ, ◌+ℤ◌, to_z, of_z, to_z-of_z, w64, SFits, arith, refl, sym, ap, ap₂, ◌∙◌, subst, nat_abs, set}
+use Rattle.std.proofs.Common.{rules, ◌≡◌, ℕ, ◌<◌, length, ℤ, ◌+ℤ◌, to_z, of_z, to_z-of_z, w64, SFits, arith, ap, ap₂, ◌∙◌, subst, set}
 use Rattle.integers.proofs.Bits.{answer}
 use Rattle.integers.proofs.Parts.{linear, abs}
 use Rattle.integers.specs.Words.{bit}
@@ -8,7 +8,6 @@ use Rattle.placing.specs.declared.seats.Seats.{Seats}
 use Rattle.placing.specs.declared.tables.Nodes.{Nodes}
 use Rattle.placing.specs.Words.{entry, Linked}
 use Rattle.placing.specs.Priced.{price}
-use Rattle.placing.specs.Bids.{Choice, Displaced, Aloft}
 use Rattle.placing.proofs.Bidding.{bid_home, give_none, give_has, raised_small, bid_taken}
 use Rattle.placing.proofs.seats.Seats.bid.Goals as goal
 use Rattle.placing.proofs.seats.Seats.bid.Goals.{After-displace-left, After-price_at}
