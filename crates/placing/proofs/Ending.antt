@@ -31,6 +31,7 @@ module _ {o : Offers} {s : Seats} {p : Paths} {root : ℕ} (t : Turn o s p.price
       least = λ k d. by-test (lt_z (far_of p k) unmet)
           (λ z. let y = open_far k d (omega linear) in omega (linear, parts e))
           (λ z. omega (linear, parts e));
+      bound = omega (linear, parts e);
     }
 
     -- with no way on
@@ -39,7 +40,7 @@ module _ {o : Offers} {s : Seats} {p : Paths} {root : ℕ} (t : Turn o s p.price
       exits i k l a =
           let c = v.covered i k (omega arith) a in
           let b = way_small t (entry p.nodes i) k (v.base i) (let y = v.bases i l in omega (arith, v.few)) in
-          let met : far_of p k <ℤ unmet = omega linear in
+          let met : far_of p k <ℤ unmet = ⊎_elim (λ y. omega linear) (λ y. absurd (omega linear)) c in
           ⊎_elim (λ w. let y = g k w in absurd (omega linear)) (λ c. ⊎_elim (λ y. y) (λ y. absurd (omega linear)) c) (v.met k met)
 
       pub ended_none : (q : ℕ → ℕ) → All o.nodes.now.count o.nodes.now.sets o.nodes.now.own q → ⊥

@@ -25,7 +25,7 @@ use Rattle.placing.specs.declared.paths.Paths.{Paths}
 use Rattle.placing.specs.declared.seats.Seats.{Seats}
 use Rattle.placing.specs.Words.{entry, Stands}
 use Rattle.placing.specs.Priced.{price}
-use Rattle.placing.specs.Paths.{paid, may, way, unmet, far_of, by_of, Bounded, Kept, Same, Scanned, Nearest, Turn, Gone, Step, Searched}
+use Rattle.placing.specs.Paths.{paid, may, way, unmet, far_of, by_of, Near, Bounded, Kept, Same, Scanned, Nearest, Turn, Gone, Step, Searched}
 use Rattle.placing.proofs.Linking.{stands_taker}
 use Rattle.placing.proofs.Offering.{paid_within}
 use Rattle.placing.proofs.Reaching.{far_small, far_home, far_else}
@@ -242,8 +242,8 @@ module _ {o : Offers} {s : Seats} {p : Paths} {root : ℕ} (t : Turn o s p.price
           bases = v.bases;
           steps = row_step;
           covered = λ i k h a. by-same i p.step
-              (λ e. subst (λ j. may o (entry p.nodes j) k → far_of q k ≤ℤ way o p.prices (entry p.nodes j) (v.base j) k) (sym e) (r.covered k) a)
-              (λ d. le_trans (closer k) (v.covered i k (omega arith) a));
+              (λ e. subst (λ j. may o (entry p.nodes j) k → Near q k (way o p.prices (entry p.nodes j) (v.base j) k)) (sym e) (r.covered k) a)
+              (λ d. ⊎_elim (λ y. inl (le_trans (closer k) y)) (λ y. inr (le_trans r.falls y)) (v.covered i k (omega arith) a));
           found = row_found;
           waits = λ k h w. ⊎_elim
               (λ e. let (x, y) = v.waits k h (sym e.waits ∙ w) in (rw e.far x, y))

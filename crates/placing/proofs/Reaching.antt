@@ -23,7 +23,7 @@ use Rattle.placing.specs.declared.offers.Offers.{Offers}
 use Rattle.placing.specs.declared.paths.Paths.{Paths}
 use Rattle.placing.specs.Words.{entry}
 use Rattle.placing.specs.Priced.{price}
-use Rattle.placing.specs.Paths.{may, way, unmet, by_kind, far_of, by_of, Exit, Bounded, Kept, Same, Nearer, Reached, Scanned}
+use Rattle.placing.specs.Paths.{may, way, unmet, by_kind, far_of, by_of, Exit, Near, Bounded, Kept, Same, Nearer, Reached, Scanned}
 
 -- ---- the two tables by the kind of label
 
@@ -91,10 +91,14 @@ same_self p l = record { far = refl; by = refl; waits = refl }
 
 -- ---- a way that is not shorter
 
-pub reached_not : (p : Paths) (l : ℕ) {z : ℤ} → far_of p l ≤ℤ z → Reached p p l z
+pub reached_not : (p : Paths) (l : ℕ) {z : ℤ} → Near p l z → Reached p p l z
 reached_not p l h = record { kept = kept_self p; falls = le_refl p.bound; others = λ k _. same_self p k; here = inl (same_self p l, h) }
 
 -- ---- a shorter way, to a label below 64 and to 255
+
+-- the way to a label then
+pub far_label : (p p' : Paths) {l : ℕ} {z : ℤ} → l < 64 → length p.far ≡ 64 → p'.far ≡ set p.far l z → far_of p' l ≡ z
+far_label p p' {l} {z} h sf ef = far_small p' h ∙ ap (λ (t : List ℤ). get_or t l (pos 0)) ef ∙ get_or-set_same p.far l z (pos 0) (omega arith)
 
 module _ (p p' : Paths) (kept : Kept p p') (falls : p'.bound ≤ℤ p.bound) where
   pub reached_label : {l : ℕ} {z : ℤ} → l < 64 → length p.far ≡ 64 → length p.by ≡ 64 → z <ℤ get_or p.far l (pos 0)
@@ -110,7 +114,7 @@ module _ (p p' : Paths) (kept : Kept p p') (falls : p'.bound ≤ℤ p.bound) whe
     };
     here = inr (record {
       less = let e = far_small p h in rw e less;
-      far = far_small p' h ∙ ap (λ (t : List ℤ). get_or t l (pos 0)) ef ∙ get_or-set_same p.far l z (pos 0) (omega arith);
+      far = far_label p p' h sf ef;
       by = by_small p' h ∙ ap (λ (t : List ℕ). entry t l) eb ∙ get_or-set_same p.by l p.step 0 (omega arith);
       waits = waits;
     });
@@ -146,37 +150,22 @@ waits_other w l k d = bit_or_lem w (2 ^ l) k ∙ other (bit w k) (bit_power l k 
 
 -- ---- the goal after a shorter way
 
-module _ {free : ℕ} {p p' : Paths} {l : ℕ} {z : ℤ} (b : Bounded free p) (r : Reached p p' l z) (less : z <ℤ far_of p l) where
-  far_here : far_of p' l ≡ z
-  far_here = ⊎_elim (λ (s, q). absurd (omega linear)) (λ n. n.far) r.here
+module _ {free : ℕ} {p p' : Paths} {l : ℕ} {z : ℤ} (b : Bounded free p) (r : Reached p p' l z) where
+  -- a label waits, and the goal stays
+  pub bounded_waits : (Exit free l → ⊥) → bit free l ≡ false → p'.bound ≡ p.bound → p'.goal ≡ p.goal → p'.waiting ≡ bit_or p.waiting (2 ^ l) → Bounded free p'
+  bounded_waits not f ez eg ew = record {
+    kind = subst (Exit free) (sym eg) b.kind;
+    goal = ez ∙ b.goal ∙ sym (r.others p.goal (λ e. not (subst (Exit free) e b.kind))).far ∙ ap (far_of p') (sym eg);
+    ends = λ k x. by-same k l (λ e. absurd (not (subst (Exit free) e x))) (λ d. let y = (r.others k d).far in let w = b.ends k x in omega (linear, parts y, parts ez));
+    held = λ k w. by-same k l (λ e. ap (bit free) e ∙ f) (λ d. b.held k (sym (waits_other p.waiting l k d) ∙ sym (ap (λ (x : ℕ). bit x k) ew) ∙ w));
+  }
 
-  -- the goal stays
-  module _ (ez : p'.bound ≡ p.bound) (eg : p'.goal ≡ p.goal) where
-    stays : (p.goal ≡ l → ⊥) → far_of p p.goal ≡ far_of p' p'.goal
-    stays d = sym (r.others p.goal d).far ∙ ap (far_of p') (sym eg)
-
-    pub bounded_past : p.bound ≤ℤ z → p'.waiting ≡ p.waiting → Bounded free p'
-    bounded_past h ew = record {
-      kind = subst (Exit free) (sym eg) b.kind;
-      goal = ez ∙ b.goal ∙ stays (λ e. let x = b.goal in let y = ap (far_of p) e in absurd (omega (linear, parts x, parts y)));
-      ends = λ k x. by-same k l (λ e. subst (λ i. p'.bound ≤ℤ far_of p' i) (sym e) (omega (linear, parts far_here, parts ez))) (λ d. let y = (r.others k d).far in let w = b.ends k x in omega (linear, parts y, parts ez));
-      held = λ k w. b.held k (sym (ap (λ (x : ℕ). bit x k) ew) ∙ w);
-    }
-
-    pub bounded_waits : (Exit free l → ⊥) → bit free l ≡ false → p'.waiting ≡ bit_or p.waiting (2 ^ l) → Bounded free p'
-    bounded_waits not f ew = record {
-      kind = subst (Exit free) (sym eg) b.kind;
-      goal = ez ∙ b.goal ∙ stays (λ e. not (subst (Exit free) e b.kind));
-      ends = λ k x. by-same k l (λ e. absurd (not (subst (Exit free) e x))) (λ d. let y = (r.others k d).far in let w = b.ends k x in omega (linear, parts y, parts ez));
-      held = λ k w. by-same k l (λ e. ap (bit free) e ∙ f) (λ d. b.held k (sym (waits_other p.waiting l k d) ∙ sym (ap (λ (x : ℕ). bit x k) ew) ∙ w));
-    }
-
-  -- the label is the goal
-  pub bounded_goal : Exit free l → z <ℤ p.bound → p'.bound ≡ z → p'.goal ≡ l → p'.waiting ≡ p.waiting → Bounded free p'
-  bounded_goal x h ez eg ew = record {
+  -- a label is the goal
+  pub bounded_goal : far_of p' l ≡ z → Exit free l → z <ℤ p.bound → p'.bound ≡ z → p'.goal ≡ l → p'.waiting ≡ p.waiting → Bounded free p'
+  bounded_goal far x h ez eg ew = record {
     kind = subst (Exit free) (sym eg) x;
-    goal = ez ∙ sym far_here ∙ ap (far_of p') (sym eg);
-    ends = λ k y. by-same k l (λ e. subst (λ i. p'.bound ≤ℤ far_of p' i) (sym e) (omega (linear, parts far_here, parts ez))) (λ d. let s = (r.others k d).far in let w = b.ends k y in omega (linear, parts s, parts ez));
+    goal = ez ∙ sym far ∙ ap (far_of p') (sym eg);
+    ends = λ k y. by-same k l (λ e. subst (λ i. p'.bound ≤ℤ far_of p' i) (sym e) (omega (linear, parts far, parts ez))) (λ d. let s = (r.others k d).far in let w = b.ends k y in omega (linear, parts s, parts ez));
     held = λ k w. b.held k (sym (ap (λ (x : ℕ). bit x k) ew) ∙ w);
   }
 
@@ -185,7 +174,7 @@ module _ {free : ℕ} {p p' : Paths} {l : ℕ} {z : ℤ} (b : Bounded free p) (r
 pub record Scanning (o : Offers) (p p' : Paths) (u : ℕ) (b : ℤ) (f : ℕ → ℕ) (k : ℕ) : Type 0 where
   pub kept : Kept p p'
   pub falls : p'.bound ≤ℤ p.bound
-  pub covered : (j : ℕ) → j < k → far_of p' (f j) ≤ℤ way o p.prices u b (f j)
+  pub covered : (j : ℕ) → j < k → Near p' (f j) (way o p.prices u b (f j))
   pub each : (l : ℕ) → Same p p' l ⊎ (may o u l × Nearer p p' l (way o p.prices u b l))
 
 pub scanning_none : (o : Offers) (p : Paths) (u : ℕ) (b : ℤ) (f : ℕ → ℕ) → Scanning o p p u b f 0
@@ -197,14 +186,17 @@ reached_le {p} {p'} {l} r k = by-same k l
     (λ e. subst (λ i. far_of p' i ≤ℤ far_of p i) (sym e) (⊎_elim (λ (s, _). omega (linear, s.far)) (λ n. omega (linear, n.far, n.less)) r.here))
     (λ d. let s = r.others k d in omega (linear, s.far))
 
+near_after : {p p' : Paths} {l : ℕ} {z : ℤ} → Reached p p' l z → (k : ℕ) {y : ℤ} → Near p k y → Near p' k y
+near_after r k n = ⊎_elim (λ h. inl (le_trans (reached_le r k) h)) (λ h. inr (le_trans r.falls h)) n
+
 pub scanning_more : {o : Offers} {p p' p'' : Paths} {u : ℕ} {b : ℤ} {f : ℕ → ℕ} {k : ℕ} → may o u (f k) → Scanning o p p' u b f k
     → Reached p' p'' (f k) (way o p.prices u b (f k)) → Scanning o p p'' u b f (k + 1)
 scanning_more {o} {p} {p'} {p''} {u} {b} {f} {k} a v r = record {
   kept = record { prices = r.kept.prices ∙ v.kept.prices; nodes = r.kept.nodes ∙ v.kept.nodes; labels = r.kept.labels ∙ v.kept.labels; step = r.kept.step ∙ v.kept.step };
   falls = le_trans r.falls v.falls;
   covered = λ j h. by-same j k
-      (λ e. subst (λ i. far_of p'' (f i) ≤ℤ way o p.prices u b (f i)) (sym e) (⊎_elim (λ (s, q). omega (linear, s.far)) (λ n. omega (linear, n.far)) r.here))
-      (λ d. let q = v.covered j (omega arith) in let y = reached_le r (f j) in omega linear);
+      (λ e. subst (λ i. Near p'' (f i) (way o p.prices u b (f i))) (sym e) (⊎_elim (λ (s, q). near_after r (f k) q) (λ n. inl (omega (linear, n.far))) r.here))
+      (λ d. near_after r (f j) (v.covered j (omega arith)));
   each = λ l. by-same l (f k)
       (λ e. subst (λ i. Same p p'' i ⊎ (may o u i × Nearer p p'' i (way o p.prices u b i))) (sym e) here)
       (λ d. let s = r.others l d in ⊎_elim (λ t. inl (joined t s)) (λ (m, n). inr (m, carried n s)) (v.each l));
@@ -230,6 +222,6 @@ pub scanning_all : {o : Offers} {p p' : Paths} {u : ℕ} {b : ℤ} {f : ℕ → 
 scanning_all {o} {p} {p'} {u} {b} v g = record {
   kept = v.kept;
   falls = v.falls;
-  covered = λ l m. let (j, h, e) = g l m in subst (λ i. far_of p' i ≤ℤ way o p.prices u b i) e (v.covered j h);
+  covered = λ l m. let (j, h, e) = g l m in subst (λ i. Near p' i (way o p.prices u b i)) e (v.covered j h);
   each = v.each;
 }

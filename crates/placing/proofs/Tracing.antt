@@ -120,8 +120,14 @@ module _ {o : Offers} {s : Seats} {p : Paths} {root : ℕ} (t : Turn o s p.price
         let c = paid o (entry p.nodes i) k in
         let y = v.covered i k (omega arith) a in
         by_gone p k
-        (λ g. omega (linear, y, price_gone k g, add3 b c (price p.prices k), add3 b c (price q.prices k), add (price p.prices k) (z -ℤ far_of p k), sub z (far_of p k)))
-        (λ d. omega (linear, y, e.least k d, price_new k d, add3 b c (price p.prices k), add3 b c (price q.prices k)))
+        (λ g. ⊎_elim
+        (λ y. omega (linear, price_gone k g, add3 b c (price p.prices k), add3 b c (price q.prices k), add (price p.prices k) (z -ℤ far_of p k), sub z (far_of p k)))
+        (λ y. omega (linear, e.bound, price_rises k, add3 b c (price p.prices k), add3 b c (price q.prices k)))
+        y)
+        (λ d. ⊎_elim
+        (λ y. omega (linear, e.least k d, price_new k d, add3 b c (price p.prices k), add3 b c (price q.prices k)))
+        (λ y. omega (linear, e.bound, price_new k d, add3 b c (price p.prices k), add3 b c (price q.prices k)))
+        y)
 
     under : (i l : ℕ) → far_of p l ≡ way o p.prices (entry p.nodes i) (v.base i) l → far_of p l ≤ℤ z → way o q.prices (entry p.nodes i) (v.base i) l ≤ℤ z
     under i l y n =

@@ -51,6 +51,10 @@ pub record Bounded (free : ℕ) (p : Paths) : Type 0 where
   pub ends : (l : ℕ) → Exit free l → p.bound ≤ℤ far_of p l
   pub held : (l : ℕ) → bit p.waiting l ≡ true → bit free l ≡ false
 
+-- the label l, or an end, is no farther off than z
+abbrev pub Near : Paths → ℕ → ℤ → Type 0
+Near p l z = (far_of p l ≤ℤ z) ⊎ (p.bound ≤ℤ z)
+
 -- all but the ways to labels
 pub record Kept (p p' : Paths) : Type 0 where
   pub prices : p'.prices ≡ p.prices
@@ -76,7 +80,7 @@ pub record Reached (p p' : Paths) (l : ℕ) (z : ℤ) : Type 0 where
   pub kept : Kept p p'
   pub falls : p'.bound ≤ℤ p.bound
   pub others : (k : ℕ) → (k ≡ l → ⊥) → Same p p' k
-  pub here : (Same p p' l × (far_of p l ≤ℤ z)) ⊎ Nearer p p' l z
+  pub here : (Same p p' l × Near p l z) ⊎ Nearer p p' l z
 
 -- a node's row that can be gone through: no number is large
 pub record Row (o : Offers) (p : Paths) (u : ℕ) (b : ℤ) : Type 0 where
@@ -85,11 +89,11 @@ pub record Row (o : Offers) (p : Paths) (u : ℕ) (b : ℤ) : Type 0 where
   pub base : nat_abs b ≤ 2 ^ 50
   pub prices : (l : ℕ) → nat_abs (price p.prices l) ≤ 2 ^ 50
 
--- it was gone through from a way of length b: each of the node's labels is as near as over this node, and those nearer than before are so by that
+-- it was gone through from a way of length b: each of the node's labels is as near as over this node, or an end is, and those nearer than before are so by that
 pub record Scanned (o : Offers) (p p' : Paths) (u : ℕ) (b : ℤ) : Type 0 where
   pub kept : Kept p p'
   pub falls : p'.bound ≤ℤ p.bound
-  pub covered : (l : ℕ) → may o u l → far_of p' l ≤ℤ way o p.prices u b l
+  pub covered : (l : ℕ) → may o u l → Near p' l (way o p.prices u b l)
   pub each : (l : ℕ) → Same p p' l ⊎ (may o u l × Nearer p p' l (way o p.prices u b l))
 
 -- a label that waits, none nearer
@@ -136,7 +140,7 @@ pub record Searched (o : Offers) (s : Seats) (p : Paths) (root m : ℕ) : Type 0
   pub root_node : entry p.nodes 0 ≡ root
   pub bases : (i : ℕ) → i ≤ p.step → nat_abs (base i) ≤ i * 2 ^ 41
   pub steps : (i : ℕ) → 0 < i → i ≤ p.step → Step o s p base i
-  pub covered : (i l : ℕ) → i < m → may o (entry p.nodes i) l → far_of p l ≤ℤ way o p.prices (entry p.nodes i) (base i) l
+  pub covered : (i l : ℕ) → i < m → may o (entry p.nodes i) l → Near p l (way o p.prices (entry p.nodes i) (base i) l)
   pub found : (l : ℕ) → far_of p l <ℤ unmet → (by_of p l < m) × may o (entry p.nodes (by_of p l)) l × (far_of p l ≡ way o p.prices (entry p.nodes (by_of p l)) (base (by_of p l)) l)
   pub waits : (l : ℕ) → l < 64 → bit p.waiting l ≡ true → (far_of p l <ℤ unmet) × (Gone p l → ⊥)
   pub met : (l : ℕ) → far_of p l <ℤ unmet → (bit p.waiting l ≡ true) ⊎ Gone p l ⊎ (p.bound ≤ℤ far_of p l)
@@ -154,6 +158,7 @@ pub record Ended (s : Seats) (p : Paths) (l : ℕ) : Type 0 where
   pub kind : Exit s.free l
   pub met : far_of p l <ℤ unmet
   pub least : (k : ℕ) → (Gone p k → ⊥) → far_of p l ≤ℤ far_of p k
+  pub bound : far_of p l ≤ℤ p.bound
 
 -- ---- the prices after it
 

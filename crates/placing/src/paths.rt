@@ -1,5 +1,5 @@
 // Shortest paths among the labels, from a node that is to be placed: over the nodes that hold labels to one that is free, or to 255.
-ghost use Rattle.std.specs.Prelude.{◌≡◌, ℕ, true, false, ◌+◌, ◌^◌, ◌≤◌, ◌<◌, ℤ, ◌+ℤ◌, ◌≤ℤ◌, slice_index_or, replicate, pos, unsigned_abs, MatchOption};
+ghost use Rattle.std.specs.Prelude.{◌≡◌, ℕ, true, false, ◌+◌, ◌^◌, ◌≤◌, ◌<◌, ◌⊎◌, ℤ, ◌+ℤ◌, ◌≤ℤ◌, slice_index_or, replicate, pos, unsigned_abs, MatchOption};
 ghost use Rattle.integers.specs.Words.{bit};
 ghost use Rattle.placing.specs.Words.{entry, All};
 ghost use Rattle.placing.specs.Priced.{price};
@@ -21,8 +21,15 @@ fn at(table: &[i64; 64], l: u8) -> i64
     table[usize::from(l)]
 }
 
+// The less of two ways.
+fn lesser(a: i64, b: i64) -> i64
+    ensures { ((result ≡ a) × (a ≤ℤ b)) ⊎ ((result ≡ b) × (b ≤ℤ a)) }
+{
+    if a < b { a } else { b }
+}
+
 // The prices of the labels, and a search for a label of least cost: step 0 is at the root, each other at the node that holds the step's label.
-// `far` is the least way to each label and `by` the step from which it comes, `home` and `home_by` the same of 255. `bound` is the least way to an end, which is a free label or 255, and `goal` that end; `waiting` has the other labels met from which no step went, but for those that were not nearer than the bound.
+// `far` is the least way to each label and `by` the step from which it comes, `home` and `home_by` the same of 255. `bound` is the least way to an end, which is a free label or 255, and `goal` that end: a way that is not shorter is passed over. `waiting` has the other labels met from which no step went.
 #[derive(Drop)]
 pub(crate) struct Paths {
     pub prices: [i64; 64],
@@ -69,13 +76,10 @@ impl Paths {
             let price = at(&self.prices, l);
             let known = at(&self.far, l);
             let far = way + price;
-            if far < known {
+            if far < lesser(known, self.bound) {
                 let label = usize::from(l);
                 self.far[label] = far;
                 self.by[label] = step;
-                if far >= self.bound {
-                    return;
-                }
                 if has(free, l) {
                     self.bound = far;
                     self.goal = l;
@@ -83,13 +87,11 @@ impl Paths {
                     self.waiting |= bit_of(l);
                 }
             }
-        } else if way < self.home {
+        } else if way < self.bound {
             self.home = way;
             self.home_by = step;
-            if way < self.bound {
-                self.bound = way;
-                self.goal = l;
-            }
+            self.bound = way;
+            self.goal = l;
         }
     }
 
