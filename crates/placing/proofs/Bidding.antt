@@ -286,6 +286,12 @@ module _ {o : Offers} {taken : List ℕ} {free : ℕ} {prices : List ℤ} {out m
             (λ e. subst (λ i. price prices i ≤ℤ price prices' i) (sym e) (omega (linear, parts price_here, add (price prices label) raise, ch.floor)))
             (λ e. omega (linear, parts (price_other l e)))
 
+        -- by a rise that is none, or the label's price is higher
+        pub bid_dearer : (raise ≡ pos 0 → ⊥) → price prices label <ℤ price prices' label
+        bid_dearer f = by-test (lt_z (pos 0) raise)
+            (λ e. omega (linear, parts price_here, add (price prices label) raise))
+            (λ e. absurd (f (omega (linear, ch.floor))))
+
         bound' : UpTo (m + 1) prices'
         bound' l = by-same l label
             (λ e. subst (λ i. nat_abs (price prices' i) ≤ (m + 1) * 2 ^ 41) (sym e) (rw price_here raised_bound))

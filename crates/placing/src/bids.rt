@@ -1,5 +1,5 @@
 // Bids for labels, by which most nodes are placed without a search: a node takes the label that costs it least, and its price rises until another would cost as little.
-ghost use Rattle.std.specs.Prelude.{◌≡◌, true, false, cond, ℕ, ◌⊎◌, ◌+◌, ◌^◌, ◌≤◌, ◌<◌, ◌≤ℤ◌, pos, replicate, unsigned_abs};
+ghost use Rattle.std.specs.Prelude.{◌≡◌, true, false, cond, ℕ, ◌⊎◌, ◌+◌, ◌^◌, ◌≤◌, ◌<◌, ◌≤ℤ◌, ◌<ℤ◌, pos, replicate, unsigned_abs};
 ghost use Rattle.integers.specs.Words.{bit};
 ghost use Rattle.placing.specs.Words.{entry};
 ghost use Rattle.placing.specs.Priced.{price};
@@ -92,12 +92,13 @@ impl<'a> Seats<'a> {
     }
 
     // Node `u`, which is not placed, takes its label of least net cost, if need be from another node, and the price rises to where the second costs as little.
-    // The answer is the node that is not placed then, 255 for none: `u` itself where the price of a label that is held would not rise.
+    // The answer is the node that is not placed then, 255 for none: `u` itself where the price of a label that is held would not rise. So another leaves its label only for a price that rises.
     // Kept: the word of the nodes and the number of bids so far are bound in the contract, as the code reads neither.
     fn bid(&mut self, offers: &Offers, prices: &mut [i64; 64], u: usize) -> u8
         requires { (self.old.nodes.now ≡ offers.now.nodes.now) × (u < 64) × (out : ℕ) × (m : ℕ) × (m < 512) × Aloft offers.now self.old.taken self.old.free prices.old out m u }
         ensures same { self.new.nodes.now ≡ self.old.nodes.now }
         ensures placed { (out m : ℕ) → m < 512 → Aloft offers.now self.old.taken self.old.free prices.old out m u → Aloft offers.now self.new.taken self.new.free prices.new out (m + 1) result }
+        ensures dearer { result < 64 → (result ≡ u → ⊥) → (l : ℕ) × (price prices.old l <ℤ price prices.new l) }
     {
         let bid = best_two(offers, prices, u);
         let label = bid.label;

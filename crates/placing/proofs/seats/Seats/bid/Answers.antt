@@ -1,16 +1,17 @@
 -- `bid` meets its contract: the three outcomes of a bid.
-use Rattle.std.proofs.Common.{rules, ◌≡◌, ℕ, ◌<◌, length, ℤ, ◌+ℤ◌, to_z, of_z, to_z-of_z, w64, SFits, arith, ap, ap₂, ◌∙◌, subst, set}
+use Rattle.std.proofs.Common.{rules, ◌≡◌, ℕ, ◌<◌, length, ℤ, ◌+ℤ◌, to_z, of_z, to_z-of_z, w64, SFits, arith, sym, ap, ap₂, ◌∙◌, subst, set, ⊎_elim, false, pos}
 use Rattle.integers.proofs.Bits.{answer}
 use Rattle.integers.proofs.Parts.{linear, abs}
 use Rattle.integers.specs.Words.{bit}
+use Rattle.assignment.proofs.Counts.{differ}
 use Rattle.placing.specs.declared.offers.Offers.{Offers}
 use Rattle.placing.specs.declared.seats.Seats.{Seats}
 use Rattle.placing.specs.declared.tables.Nodes.{Nodes}
 use Rattle.placing.specs.Words.{entry, Linked}
 use Rattle.placing.specs.Priced.{price}
-use Rattle.placing.proofs.Bidding.{bid_home, give_none, give_has, raised_small, bid_taken}
+use Rattle.placing.proofs.Bidding.{bid_home, give_none, give_has, raised_small, bid_taken, bid_dearer}
 use Rattle.placing.proofs.seats.Seats.bid.Goals as goal
-use Rattle.placing.proofs.seats.Seats.bid.Goals.{After-displace-left, After-price_at}
+use Rattle.placing.proofs.seats.Seats.bid.Goals.{After-displace-left, After-price_at, else-bid-eq0-via-then-bid-eq0+else-not-has, else-bid-eq0-via-else-bid-eq0}
 
 pub returns-then-label-ge64-clause-placed : goal.returns-then-label-ge64-clause-placed
 returns-then-label-ge64-clause-placed c out m h v = bid_home v c.requires.1 c.best_two-bid.ensures c.if-label-ge64.true
@@ -71,3 +72,19 @@ returns-clause-placed c out m h v =
     let t = (goal.at.returns-clause-placed c).After-price_at in
     bid_taken v c.requires.1 c.best_two-bid.ensures h (inside (d t)) (linked (d t)) c.displace-left.ensures.displaced (size (d t)) c.give.ensures.taken c.give.ensures.free
     (ap₂ (λ (i : ℕ) (y : ℤ). set c.args.prices.now i y) c.from.ensures (ap (λ (y : ℤ). to_z w64 (of_z w64 y)) (sum_is t) ∙ to_z-of_z (fits t)))
+
+-- a node was displaced: the label was held, so its price rises
+pub returns-clause-dearer : goal.returns-clause-dearer
+returns-clause-dearer c h _ =
+    let t = (goal.at.returns-clause-dearer c).After-price_at in
+    let (_, small, out, m, few, v) = c.requires in
+    let e = c.displace-left.ensures.displaced in
+    let held : bit c.args.self.now.free (label (d t)) ≡ false = ⊎_elim (λ q. absurd (omega arith)) (λ (l, y, _). ap (bit c.args.self.now.free) (sym y) ∙ ((linked (d t)).taker c.displace-left.result l (let g = inside (d t) in omega arith)).0) e.kind in
+    let rises : c.best_two-bid.result.raise ≡ pos 0 → ⊥ = elim c.else-bid-eq0.branch [
+      | else-bid-eq0-via-then-bid-eq0+else-not-has w ↦ λ _. differ (sym w.has.ensures ∙ w.if-not-has.false) held
+      | else-bid-eq0-via-else-bid-eq0 w ↦ λ y. w.if-bid-eq0.false (ap (of_z w64) y)
+    ] in (
+      label (d t),
+      bid_dearer v small c.best_two-bid.ensures few (inside (d t)) (linked (d t)) e (size (d t)) c.give.ensures.taken c.give.ensures.free
+          (ap₂ (λ (i : ℕ) (y : ℤ). set c.args.prices.now i y) c.from.ensures (ap (λ (y : ℤ). to_z w64 (of_z w64 y)) (sum_is t) ∙ to_z-of_z (fits t))) rises,
+    )
