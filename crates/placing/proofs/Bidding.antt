@@ -23,6 +23,7 @@ use Rattle.placing.specs.declared.offers.Offers.{Offers}
 use Rattle.placing.specs.Words.{entry, flag, opens, Linked, Joined, Stands, Standing}
 use Rattle.placing.specs.Priced.{price, net, Priced}
 use Rattle.placing.specs.Paths.{paid, may, unmet}
+use Rattle.placing.specs.Choices.{Lesser, Greater}
 use Rattle.placing.specs.Bids.{Choice, Displaced, UpTo, Others, Aloft, Landed}
 use Rattle.placing.proofs.Searching.{or_fails}
 use Rattle.placing.proofs.Offering.{paid_within}
@@ -50,13 +51,6 @@ two_one f e h = record {
   others = λ j g d. absurd (d (omega arith));
   met = λ z. absurd (omega linear);
 }
-
--- the lesser and the greater of two
-abbrev pub Lesser : ℤ → ℤ → ℤ → Type 0
-Lesser a b z = (z ≤ℤ a) × (z ≤ℤ b) × ((z ≡ a) ⊎ (z ≡ b))
-
-abbrev pub Greater : ℤ → ℤ → ℤ → Type 0
-Greater a b z = (a ≤ℤ z) × (b ≤ℤ z) × ((z ≡ a) ⊎ (z ≡ b))
 
 module _ {o : Offers} {prices : List ℤ} {u : ℕ} {f : ℕ → ℕ} {k label : ℕ} {least second : ℤ} (t : Two o prices u f k label least second) {n : ℤ} (here : n ≡ net (paid o) prices u (f k)) where
   -- the next costs less than all before

@@ -6,6 +6,7 @@ pub mod Priced
 pub mod Listed
 pub mod Paths
 pub mod TightRows
+pub mod Choices
+pub mod Bids
 pub mod Assigning
 pub mod Sample
-pub mod Bids

@@ -5,6 +5,7 @@ ghost use Rattle.placing.specs.Words.{entry};
 ghost use Rattle.placing.specs.Priced.{price};
 ghost use Rattle.placing.specs.Bids.{Choice, Displaced, Aloft, Landed};
 
+use crate::choices::{choose, greater, lesser};
 use crate::offers::Offers;
 use crate::seats::Seats;
 use crate::words::{bit_of, has, with_label};
@@ -29,27 +30,6 @@ fn price_at(prices: &[i64; 64], label: u8) -> i64
 {
     let price = prices[usize::from(label % 64)];
     if label < 64 { price } else { 0 }
-}
-
-// The lesser of two net costs.
-fn lesser(a: i64, b: i64) -> i64
-    ensures { (result ≤ℤ a) × (result ≤ℤ b) × ((result ≡ a) ⊎ (result ≡ b)) }
-{
-    a.min(b)
-}
-
-// The greater of two net costs.
-fn greater(a: i64, b: i64) -> i64
-    ensures { (a ≤ℤ result) × (b ≤ℤ result) × ((result ≡ a) ⊎ (result ≡ b)) }
-{
-    a.max(b)
-}
-
-// The one label or the other.
-fn choose(first: bool, a: u8, b: u8) -> u8
-    ensures { result ≡ cond first a b }
-{
-    if first { a } else { b }
 }
 
 // The label of least net cost of node `u`, and how far its price can rise until another of its labels costs as little.

@@ -6,6 +6,7 @@ mod answer;
 mod assign;
 mod assigning;
 mod bids;
+mod choices;
 mod filling;
 mod greedy;
 mod lowering;

@@ -5,6 +5,7 @@ ghost use Rattle.placing.specs.Words.{entry, All};
 ghost use Rattle.placing.specs.Priced.{price};
 ghost use Rattle.placing.specs.Paths.{may, far_of, paid, Kind, Row, Turn, Bounded, Chosen, Reached, Scanned, Searched, Onward, Ended, Raising, RaisedTo};
 
+use crate::choices::lesser;
 use crate::offers::Offers;
 use crate::seats::Seats;
 use crate::words::{bit_of, has, lowest};
@@ -19,13 +20,6 @@ fn at(table: &[i64; 64], l: u8) -> i64
     ensures { result ≡ slice_index_or table.now l (pos 0) }
 {
     table[usize::from(l)]
-}
-
-// The less of two ways.
-fn lesser(a: i64, b: i64) -> i64
-    ensures { ((result ≡ a) × (a ≤ℤ b)) ⊎ ((result ≡ b) × (b ≤ℤ a)) }
-{
-    if a < b { a } else { b }
 }
 
 // The prices of the labels, and a search for a label of least cost: step 0 is at the root, each other at the node that holds the step's label.

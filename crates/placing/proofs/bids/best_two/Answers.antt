@@ -7,9 +7,10 @@ use Rattle.placing.specs.declared.offers.Offers.{Offers}
 use Rattle.placing.specs.Words.{entry}
 use Rattle.placing.specs.Priced.{price, net}
 use Rattle.placing.specs.Paths.{paid, may, unmet}
+use Rattle.placing.specs.Choices.{Lesser, Greater}
 use Rattle.placing.specs.Bids.{Choice}
 use Rattle.placing.proofs.Offering.{paid_within, start_few, row_few, row_some, row_label, row_once, label_there}
-use Rattle.placing.proofs.Bidding.{Lesser, Greater, two_one, two_more, two_done, raise_small}
+use Rattle.placing.proofs.Bidding.{two_one, two_more, two_done, raise_small}
 use Rattle.placing.proofs.bids.best_two.Goals as goal
 use Rattle.placing.proofs.bids.best_two.Goals.{After-labels_of-labels, After-price_at, In-loop-k, After-price_at-in-loop-k, After-loop-k}
 

@@ -63,15 +63,12 @@ module _ (c : After-lesser) where
 
   within : c.lesser.result ≤ℤ z t → Near (p t) c.args.l (z t)
   within h = ⊎_elim
-      (λ (e, _). inl (omega (linear, parts e, parts (known_is t), parts (far_small (p t) c.if-l-lt64.true))))
-      (λ (e, _). inr (omega (linear, parts e, parts bound_is)))
-      c.lesser.ensures
+      (λ e. inl (omega (linear, parts e, parts (known_is t), parts (far_small (p t) c.if-l-lt64.true))))
+      (λ e. inr (omega (linear, parts e, parts bound_is)))
+      c.lesser.ensures.2
 
   shorter : z t <ℤ c.lesser.result → (z t <ℤ get_or (p t).far c.args.l (pos 0)) × (z t <ℤ (p t).bound)
-  shorter h = ⊎_elim
-      (λ (e, g). (omega (linear, parts e, parts (known_is t)), omega (linear, parts e, parts (known_is t), parts bound_is)))
-      (λ (e, g). (omega (linear, parts e, parts (known_is t), parts bound_is), omega (linear, parts e, parts bound_is)))
-      c.lesser.ensures
+  shorter h = (omega (linear, c.lesser.ensures.0, parts (known_is t)), omega (linear, c.lesser.ensures.1, parts bound_is))
 
 -- the way to a label is shorter
 module _ (c : After-from-label) where
