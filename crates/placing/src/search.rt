@@ -1,5 +1,6 @@
 // The search for a label, layer by layer.
 ghost use Rattle.std.specs.Prelude.{◌≡◌, true, false, ℕ, MatchResult};
+ghost use Rattle.std.specs.Int.Bits.{bit_and};
 ghost use Rattle.integers.specs.Words.{bit};
 ghost use Rattle.placing.specs.Words.{Met, Ended};
 
@@ -44,12 +45,18 @@ impl<'a> Seats<'a> {
         ensures { MatchResult result (λ met. Met self.now.reach goals start before steps.new.by steps.new.words met.count met.label) (λ seen. Ended self.now.reach goals start before seen) }
     {
         let begun = start & goals;
-        if begun != 0 {
-            return Ok(Meeting {
-                label: lowest(begun),
-                count: 0,
-            });
+        if begun == 0 {
+            return self.layers(start, before, goals, steps);
         }
+        let label = lowest(begun);
+        Ok(Meeting { label, count: 0 })
+    }
+
+    // The same where none of `start` is a goal.
+    fn layers(&self, start: u64, before: u64, goals: u64, steps: &mut Steps) -> Result<Meeting, u64>
+        requires { ((l : ℕ) → bit start l ≡ true → bit before l ≡ false) × (bit_and start goals ≡ 0) }
+        ensures { MatchResult result (λ met. Met self.now.reach goals start before steps.new.by steps.new.words met.count met.label) (λ seen. Ended self.now.reach goals start before seen) }
+    {
         let mut seen = before | start;
         let mut layer = start;
         let mut next = 0u64;
