@@ -8,12 +8,14 @@ ghost use Rattle.placing.specs.Bids.{Choice, Displaced, Aloft, Landed};
 use crate::choices::{choose, greater, lesser};
 use crate::offers::Offers;
 use crate::seats::Seats;
+use crate::tight::price_of;
 use crate::words::{bit_of, has, with_label};
 
 // The net cost of a second label, where a node has one label alone.
 const NONE: i64 = i64::MAX;
 
 // The bids that a node and those it displaces make in turn.
+// Kept: so many of 64 nodes keep each price within 2^50, as a bid adds at most the difference of two costs, 2^41.
 const TURNS: usize = 8;
 
 // A label of least net cost, and how far its price can rise.
@@ -21,15 +23,6 @@ const TURNS: usize = 8;
 struct Bid {
     label: u8,
     raise: i64,
-}
-
-// The price of a label; 255 has none.
-// Kept: it reads a price in either case, so that the choice is no branch.
-fn price_at(prices: &[i64; 64], label: u8) -> i64
-    ensures { result ≡ price prices.now label }
-{
-    let price = prices[usize::from(label % 64)];
-    if label < 64 { price } else { 0 }
 }
 
 // The label of least net cost of node `u`, and how far its price can rise until another of its labels costs as little.
@@ -42,11 +35,11 @@ fn best_two(offers: &Offers, prices: &[i64; 64], u: usize) -> Bid
     let labels = offers.sheet.labels_of(u);
     let start = offers.sheet.starts[u];
     let mut label = labels[0];
-    let mut least = offers.costs[start] + price_at(prices, label);
+    let mut least = offers.costs[start] + price_of(prices, label);
     let mut second = NONE;
     for k in 1..labels.len() {
         let l = labels[k];
-        let net = offers.costs[start + k] + price_at(prices, l);
+        let net = offers.costs[start + k] + price_of(prices, l);
         let nearer = net < least;
         second = lesser(second, greater(least, net));
         label = choose(nearer, l, label);
@@ -91,7 +84,7 @@ impl<'a> Seats<'a> {
         }
         let left = self.displace(label);
         self.give(u, label);
-        let raised = price_at(prices, label) + bid.raise;
+        let raised = price_of(prices, label) + bid.raise;
         prices[usize::from(label)] = raised;
         left
     }

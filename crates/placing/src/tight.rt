@@ -10,14 +10,12 @@ use crate::tables::{Nodes, Row};
 use crate::words::bit_of;
 
 // The price of a label; 255 has none.
-fn price_of(prices: &[i64; 64], label: u8) -> i64
+// Kept: it reads a price in either case, so that the choice is no branch.
+pub(crate) fn price_of(prices: &[i64; 64], label: u8) -> i64
     ensures { result ≡ price prices.now label }
 {
-    if label < 64 {
-        prices[usize::from(label)]
-    } else {
-        0
-    }
+    let price = prices[usize::from(label % 64)];
+    if label < 64 { price } else { 0 }
 }
 
 // A row with a label more.

@@ -12,7 +12,7 @@ use Rattle.placing.specs.Bids.{Choice}
 use Rattle.placing.proofs.Offering.{paid_within, start_few, row_few, row_some, row_label, row_once, label_there}
 use Rattle.placing.proofs.Bidding.{two_one, two_more, two_done, raise_small}
 use Rattle.placing.proofs.bids.best_two.Goals as goal
-use Rattle.placing.proofs.bids.best_two.Goals.{After-labels_of-labels, After-price_at, In-loop-k, After-price_at-in-loop-k, After-loop-k}
+use Rattle.placing.proofs.bids.best_two.Goals.{After-labels_of-labels, After-price_of, In-loop-k, After-price_of-in-loop-k, After-loop-k}
 
 -- a node's labels and net costs
 module _ (t : After-labels_of-labels) where
@@ -66,20 +66,20 @@ pub bounds-offers-start : goal.bounds-offers-start
 bounds-offers-start c = let t = (goal.at.bounds-offers-start c).After-labels_of-labels in omega (arith, (row t 0 (some t)).1)
 
 -- the first label
-module _ (t : After-price_at) where
+module _ (t : After-price_of) where
   abbrev b : After-labels_of-labels
-  b = (goal.at.After-price_at t).After-labels_of-labels
+  b = (goal.at.After-price_of t).After-labels_of-labels
 
-  first_is : (to_z w64 (of_z w64 (get_or (o b).costs.now (start b) (pos 0))) +ℤ to_z w64 (of_z w64 t.price_at.result) ≡ net (paid (o b)) t.args.prices.now (u b) (entry (labels b) 0))
-      × (to_z w64 (of_z w64 (to_z w64 (of_z w64 (get_or (o b).costs.now (start b) (pos 0))) +ℤ to_z w64 (of_z w64 t.price_at.result))) ≡ net (paid (o b)) t.args.prices.now (u b) (entry (labels b) 0))
-  first_is = sum_is b 0 (some b) (cost_is b 0 (some b) (start b) (omega arith)) (answer t.price_at.type_inv t.price_at.ensures)
+  first_is : (to_z w64 (of_z w64 (get_or (o b).costs.now (start b) (pos 0))) +ℤ to_z w64 (of_z w64 t.price_of.result) ≡ net (paid (o b)) t.args.prices.now (u b) (entry (labels b) 0))
+      × (to_z w64 (of_z w64 (to_z w64 (of_z w64 (get_or (o b).costs.now (start b) (pos 0))) +ℤ to_z w64 (of_z w64 t.price_of.result))) ≡ net (paid (o b)) t.args.prices.now (u b) (entry (labels b) 0))
+  first_is = sum_is b 0 (some b) (cost_is b 0 (some b) (start b) (omega arith)) (answer t.price_of.type_inv t.price_of.ensures)
 
 pub overflow_add-least : goal.overflow_add-least
-overflow_add-least c = let t = (goal.at.overflow_add-least c).After-price_at in rw (first_is t).0 (fits (b t) (entry (labels (b t)) 0))
+overflow_add-least c = let t = (goal.at.overflow_add-least c).After-price_of in rw (first_is t).0 (fits (b t) (entry (labels (b t)) 0))
 
 pub loop-k-init : goal.loop-k-init
 loop-k-init c =
-    let t = (goal.at.loop-k-init c).After-price_at in
+    let t = (goal.at.loop-k-init c).After-price_of in
     let e = (first_is t).1 in
     two_one (entry (labels (b t))) e (let s = small (b t) (entry (labels (b t)) 0) in omega (linear, parts e))
 
@@ -100,23 +100,23 @@ offset_bounds-offers-start-in-loop-k c = let t = (goal.at.offset_bounds-offers-s
 pub bounds-offers-start-in-loop-k : goal.bounds-offers-start-in-loop-k
 bounds-offers-start-in-loop-k c = let t = (goal.at.bounds-offers-start-in-loop-k c).In-loop-k in (row (d t) c.loop-k.k (inside t)).1
 
-module _ (t : After-price_at-in-loop-k) where
+module _ (t : After-price_of-in-loop-k) where
   abbrev x : In-loop-k
-  x = (goal.at.After-price_at-in-loop-k t).In-loop-k
+  x = (goal.at.After-price_of-in-loop-k t).In-loop-k
 
   abbrev k : ℕ
   k = t.loop-k.k
 
-  net_is : (to_z w64 (of_z w64 (get_or (o (d x)).costs.now (start (d x) + k) (pos 0))) +ℤ to_z w64 (of_z w64 t.price_at-in-loop-k.result) ≡ net (paid (o (d x))) t.args.prices.now (u (d x)) (entry (labels (d x)) k))
-      × (to_z w64 (of_z w64 (to_z w64 (of_z w64 (get_or (o (d x)).costs.now (start (d x) + k) (pos 0))) +ℤ to_z w64 (of_z w64 t.price_at-in-loop-k.result))) ≡ net (paid (o (d x))) t.args.prices.now (u (d x)) (entry (labels (d x)) k))
-  net_is = sum_is (d x) k (inside x) (cost_is (d x) k (inside x) (start (d x) + k) refl) (answer t.price_at-in-loop-k.type_inv t.price_at-in-loop-k.ensures)
+  net_is : (to_z w64 (of_z w64 (get_or (o (d x)).costs.now (start (d x) + k) (pos 0))) +ℤ to_z w64 (of_z w64 t.price_of-in-loop-k.result) ≡ net (paid (o (d x))) t.args.prices.now (u (d x)) (entry (labels (d x)) k))
+      × (to_z w64 (of_z w64 (to_z w64 (of_z w64 (get_or (o (d x)).costs.now (start (d x) + k) (pos 0))) +ℤ to_z w64 (of_z w64 t.price_of-in-loop-k.result))) ≡ net (paid (o (d x))) t.args.prices.now (u (d x)) (entry (labels (d x)) k))
+  net_is = sum_is (d x) k (inside x) (cost_is (d x) k (inside x) (start (d x) + k) refl) (answer t.price_of-in-loop-k.type_inv t.price_of-in-loop-k.ensures)
 
 pub overflow_add-net-in-loop-k : goal.overflow_add-net-in-loop-k
-overflow_add-net-in-loop-k c = let t = (goal.at.overflow_add-net-in-loop-k c).After-price_at-in-loop-k in rw (net_is t).0 (fits (d (x t)) (entry (labels (d (x t))) (k t)))
+overflow_add-net-in-loop-k c = let t = (goal.at.overflow_add-net-in-loop-k c).After-price_of-in-loop-k in rw (net_is t).0 (fits (d (x t)) (entry (labels (d (x t))) (k t)))
 
 pub loop-k-preserved : goal.loop-k-preserved
 loop-k-preserved c =
-    let t = (goal.at.loop-k-preserved c).After-price_at-in-loop-k in
+    let t = (goal.at.loop-k-preserved c).After-price_of-in-loop-k in
     two_more c.loop-k.invariant (net_is t).1 refl c.choose-label.ensures
     (subst (Lesser _ _) (sym (answer c.lesser-least.type_inv refl)) c.lesser-least.ensures)
     (subst (Greater _ _) (sym (answer c.greater.type_inv refl)) c.greater.ensures)
