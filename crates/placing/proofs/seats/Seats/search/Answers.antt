@@ -1,5 +1,4 @@
 -- `search` meets its contract: a label of the start that is a goal is met after no step.
-use mathlib.Core.Path.{◌≡◌}
 use Rattle.std.proofs.Common.{rules}
 use Rattle.placing.proofs.Searching.{searching_begun}
 use Rattle.placing.proofs.seats.Seats.search.Goals as goal
