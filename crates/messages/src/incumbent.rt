@@ -4,7 +4,6 @@ ghost use Rattle.integers.specs.Places.{every};
 ghost use Rattle.instance.specs.Sheet.{instance_of};
 ghost use Rattle.rules.specs.Costs.{none_kept};
 ghost use Rattle.rules.specs.Matchings.{is_matching};
-ghost use Rattle.rules.specs.Calls.{incumbent_ok};
 ghost use Rattle.messages.specs.Incumbent.{replaces, adopted_of};
 ghost use Rattle.messages.specs.RoundRecord.{IncumbentFits};
 

@@ -185,9 +185,6 @@ module _ {o : Offers} {taken : List ℕ} {free : ℕ} {prices : List ℤ} {out m
   pub bidder_none : entry taken u ≡ 255
   bidder_none = v.seated.later u small (λ d. d.1 refl)
 
-  pub prices_few : m < 512 → (l : ℕ) → nat_abs (price prices l) ≤ 2 ^ 50
-  prices_few h l = v.priced.top l
-
   module _ {label : ℕ} {raise : ℤ} (ch : Choice o prices u label raise) where
     -- 255: u has it, and takes no label
     pub bid_home : 64 ≤ label → Aloft o taken free prices out (m + 1) 255

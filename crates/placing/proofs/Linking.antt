@@ -5,7 +5,7 @@ use mathlib.Core.Bool.{Bool, true, false, ◌||◌}
 use mathlib.Core.List.{List}
 use Prim.Native.Nat.{ℕ, zero, suc, ◌-◌, ◌^◌, ◌≤◌, ◌<◌}
 use native.Mathlib.Omega.{arith}
-use borrow.Author.Tests.{ne_eqb, eqb-false, ltb-true, ltb-false}
+use borrow.Author.Tests.{ltb-true, ltb-false}
 use lib.Bits.{bit_xor, xor_lt}
 use lib.Dec.{eqb, ltb, lit<}
 use lib.ListN.{length, set, replicate, length-set, get_or-replicate, get_or-eq_default}
@@ -15,7 +15,6 @@ use Rattle.integers.proofs.Places.{by-test}
 use Rattle.integers.proofs.Words.{bit_full, bit_dropped, bit_kept, power_fits}
 use Rattle.assignment.proofs.Counts.{differ, by-same}
 use Rattle.placing.specs.Words.{entry, Linked, Joined, Holds, Stands, Standing}
-use Rattle.placing.proofs.Searching.{or_fails}
 
 -- a table of words with one set
 pub words_set : (t : List ℕ) (i w : ℕ) → Words t → w < 2 ^ 64 → Words (set t i w)
@@ -109,30 +108,6 @@ module _ {sets taken holders reach : List ℕ} {free : ℕ} (k : Linked sets tak
 
     others : (w : ℕ) → (w ≡ u → ⊥) → entry (set taken u 255) w ≡ entry taken w
     others w d = get_or-set_other taken u w 255 0 d
-
-    pub linked_leave : Linked sets (set taken u 255) holders reach left
-    linked_leave = record {
-      size_taken = simp length-set k.size_taken;
-      size_holders = k.size_holders;
-      size_reach = k.size_reach;
-      fit_sets = k.fit_sets;
-      fit_reach = k.fit_reach;
-      fit_free = joined.0;
-      inside = λ w g b. rw (others w (not_away w b)) (k.inside w g (rw (others w (not_away w b)) at b));
-      taker = λ w g b. rw (others w (not_away w b)) (still w g (not_away w b) (rw (others w (not_away w b)) at b));
-      held = λ x g z.
-          let (f, n) = or_fails (bit free x) (eqb x (entry taken u)) (sym (rest x g) ∙ z) in
-          let (a, b, c) = k.held x g f in
-          (a, others (entry holders x) (λ q. eqb-false x (entry taken u) n (sym b ∙ ap (entry taken) q)) ∙ b, c);
-    }
-      where
-        not_away : (w : ℕ) → entry (set taken u 255) w < 64 → w ≡ u → ⊥
-        not_away w b e = omega (arith, away, ap (entry (set taken u 255)) e)
-
-        still : (w : ℕ) → w < 64 → (w ≡ u → ⊥) → entry taken w < 64 → (bit left (entry taken w) ≡ false) × (entry holders (entry taken w) ≡ w)
-        still w g d b =
-            let (f, e) = k.taker w g b in
-            (rest (entry taken w) b ∙ rw (f, ne_eqb (entry taken w) (entry taken u) (λ q. d (linked_distinct w u g h b q))), e)
 
 -- a node that takes a label stands
 pub stands_taker : (n out : ℕ) {own : List Bool} {taken : List ℕ} → Standing (Stands n out) own taken → (u : ℕ) → u < 64 → entry taken u < 64 → Stands n out u

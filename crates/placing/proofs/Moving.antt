@@ -50,19 +50,6 @@ pub record Moving (sets taken reach : List ℕ) (free start before : ℕ) (by wo
   pub held : (x : ℕ) → x < 64 → (bit free x ≡ false) ⊎ (x ≡ label) → (x ≡ l → ⊥) → bit free' x ≡ false
 
 module _ {sets taken reach : List ℕ} {free start before : ℕ} {by words : List ℕ} {count label root : ℕ} (a : Asked sets taken start before root) (m : Met reach free start before by words count label) where
-  pub moving_none : {holders : List ℕ} → Linked sets taken holders reach free → Moving sets taken reach free start before by words count label root taken holders reach free label count
-  moving_none k = record {
-    within = omega arith;
-    found = m.met;
-    apart = λ t h e. differ m.free_label (ap (bit free) (sym e) ∙ (m.trail.from t h).1);
-    same = λ t h. refl;
-    stays = λ w d. inl refl;
-    unplaced = a.unplaced;
-    linked = k;
-    here = m.free_label;
-    held = λ x h e d. ⊎_elim (λ f. f) (λ q. absurd (d q)) e;
-  }
-
   module _ {taken' holders' reach' : List ℕ} {free' l i : ℕ} (v : Moving sets taken reach free start before by words count label root taken' holders' reach' free' l i) where
     pub moving_small : l < 64
     moving_small = seen_small m.trail i l v.within v.found

@@ -1,7 +1,7 @@
 -- Nodes that are seated, as a placing.
 -- Assumes nothing.
 use mathlib.Core.Path.{◌≡◌, sym, ap, ◌∙◌}
-use mathlib.Core.Bool.{Bool, true, false}
+use mathlib.Core.Bool.{Bool, false}
 use mathlib.Core.List.{List}
 use mathlib.Core.Logic.{⊎_elim}
 use Prim.Native.Nat.{ℕ, ◌+◌, ◌≤◌, ◌<◌}
@@ -18,14 +18,6 @@ use Rattle.placing.proofs.Blocking.{caught_blocked}
 -- ---- one node after another
 
 module _ {sets : List ℕ} {own : List Bool} {taken holders reach : List ℕ} {free u : ℕ} (k : Linked sets taken holders reach free) (s : Seated own 0 u taken) (few : u < 64) where
-  -- it has 255
-  pub seated_own : flag own u ≡ true → Seated own 0 (u + 1) taken
-  seated_own e = record {
-    seat = λ w g b. by-same w u (λ q. rw q (s.later u (omega arith) few, e)) (λ q. s.seat w (omega arith) b);
-    later = λ w g. s.later w (omega arith);
-    vacant = s.vacant;
-  }
-
   pub seated_unplaced : 64 ≤ entry taken u
   seated_unplaced = let e = s.later u (omega arith) few in omega arith
 

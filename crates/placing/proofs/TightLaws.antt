@@ -21,7 +21,7 @@ use Rattle.placing.specs.declared.offers.Offers.{Offers}
 use Rattle.placing.specs.declared.tables.Row.{Row}
 use Rattle.assignment.proofs.Counts.{differ, by-same}
 use Rattle.placing.specs.Words.{entry, opens}
-use Rattle.placing.specs.Priced.{price, net, Tight, Unpriced}
+use Rattle.placing.specs.Priced.{price, net, Tight}
 use Rattle.placing.specs.Paths.{paid}
 use Rattle.placing.specs.TightRows.{in_row, Joins, RowTight}
 use Rattle.placing.proofs.Slots.{Kinds, opens_kinds}
@@ -192,6 +192,3 @@ module _ {prices : List ℤ} {idle i : ℕ} (g : Untagged prices idle i) where
         (λ q. rw q (bit_or_lem idle (2 ^ i) i ∙ right_true (bit idle i) (bit_own i)))
         (λ q. bit_or_lem idle (2 ^ i) l ∙ left_true (bit (2 ^ i) l) (g.has l (omega arith) z));
   }
-
-  pub untagged_done : 64 ≤ i → Unpriced prices idle
-  untagged_done h = record { is = λ l k a. (g.is l a).1; has = λ l k e. g.has l (omega arith) e }

@@ -20,7 +20,7 @@ use Rattle.instance.specs.Readable.{Proper}
 use Rattle.rules.specs.Costs.{Costs, chosen, node_sum, Matching}
 use Rattle.rules.specs.Assigned.{assignment}
 use Rattle.rules.proofs.Assigned.{Assigns, assignment_none, assignment_is}
-use Rattle.assignment.specs.Rows.{Rows, Node, Free}
+use Rattle.assignment.specs.Rows.{Rows}
 use Rattle.assignment.specs.First.{First}
 use Rattle.assignment.specs.Prices.{cost_of, Balanced}
 use Rattle.assignment.proofs.Counts.{differ, find}
@@ -71,24 +71,6 @@ module _ {n : ℕ} {sets : List ℕ} {own : List Bool} {c : ℕ → ℕ → ℤ}
 
   own_net : (u : ℕ) → u < n → c u (entry taken u) +ℤ price prices (slot_of (entry taken u) u) ≡ net c prices u (entry taken u)
   own_net u h = slot_net u (entry taken u) (placed.allowed u h)
-
-  -- a label that no node takes is free
-  untaken_free : (l : ℕ) → l < 64 → Free I' (Node I') (entry taken) l → bit free l ≡ true
-  untaken_free l h f = by-test (bit free l) (λ e. e) (λ e.
-      let (a, b, _) = k.held l h e in
-      let u = entry taken' l in
-      absurd (by-test (ltb u n) (λ t. f u (ltb-true u n t) (slot_label u (omega arith) ∙ b)) (λ t. omega (arith, s.later u (ltb-false u n t) a, b))))
-    where
-      taken' : List ℕ
-      taken' = holders
-
-  pub start_balanced : Even (entry taken)
-  start_balanced = record {
-    placed = placed;
-    least = λ u l h a. rw (slot_net u l a, own_net u h) (p.least u l h a);
-    floor = p.floor;
-    idle = λ l h f. by-test (ltb l 64) (λ t. let g = ltb-true l 64 t in p.idle l g (untaken_free l g f)) (λ t. none_past n sets own c prices p.size l (ltb-false l 64 t));
-  }
 
   module _ {sets' : List ℕ} {own' : List Bool} {idle : ℕ} (t : Tight n sets own c taken prices sets' own') (z : Unpriced prices idle) where
     pub full_balanced : {q : ℕ → ℕ} → Full n sets' own' idle q → Even q

@@ -1,5 +1,5 @@
 // The matching with the least sum of node costs. Document 02, wish 6.
-ghost use Rattle.std.specs.Prelude.{◌≡◌, false, ℕ, ◌^◌, ◌≤◌, ◌<◌, length, slice_index};
+ghost use Rattle.std.specs.Prelude.{◌≡◌, false, ℕ, ◌^◌, ◌<◌, length, slice_index};
 ghost use Rattle.integers.specs.Places.{tabulate};
 ghost use Rattle.integers.specs.Sum.{Within};
 ghost use Rattle.integers.specs.Words.{bit};

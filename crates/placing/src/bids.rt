@@ -1,6 +1,5 @@
 // Bids for labels, by which most nodes are placed without a search: a node takes the label that costs it least, and its price rises until another would cost as little.
-ghost use Rattle.std.specs.Prelude.{◌≡◌, true, false, cond, ℕ, ◌⊎◌, ◌+◌, ◌^◌, ◌≤◌, ◌<◌, ◌≤ℤ◌, ◌<ℤ◌, pos, replicate, unsigned_abs};
-ghost use Rattle.integers.specs.Words.{bit};
+ghost use Rattle.std.specs.Prelude.{◌≡◌, ℕ, ◌+◌, ◌^◌, ◌≤◌, ◌<◌, ◌<ℤ◌, pos, replicate, unsigned_abs};
 ghost use Rattle.placing.specs.Words.{entry};
 ghost use Rattle.placing.specs.Priced.{price};
 ghost use Rattle.placing.specs.Bids.{Choice, Displaced, Aloft, Landed};

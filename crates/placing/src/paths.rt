@@ -1,9 +1,8 @@
 // Shortest paths among the labels, from a node that is to be placed: over the nodes that hold labels to one that is free, or to 255.
-ghost use Rattle.std.specs.Prelude.{◌≡◌, ℕ, true, false, ◌+◌, ◌^◌, ◌≤◌, ◌<◌, ◌⊎◌, ℤ, ◌+ℤ◌, ◌≤ℤ◌, slice_index_or, replicate, pos, unsigned_abs, MatchOption};
-ghost use Rattle.integers.specs.Words.{bit};
+ghost use Rattle.std.specs.Prelude.{◌≡◌, ℕ, ◌+◌, ◌^◌, ◌≤◌, ◌<◌, ℤ, ◌+ℤ◌, slice_index_or, replicate, pos, unsigned_abs, MatchOption};
 ghost use Rattle.placing.specs.Words.{entry, All};
 ghost use Rattle.placing.specs.Priced.{price};
-ghost use Rattle.placing.specs.Paths.{may, far_of, paid, Kind, Row, Turn, Bounded, Chosen, Reached, Scanned, Searched, Onward, Ended, Raising, RaisedTo};
+ghost use Rattle.placing.specs.Paths.{far_of, Kind, Row, Turn, Bounded, Chosen, Reached, Scanned, Searched, Onward, Ended, Raising, RaisedTo};
 
 use crate::choices::lesser;
 use crate::offers::Offers;

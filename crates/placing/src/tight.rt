@@ -1,9 +1,9 @@
 // The cells at which a node pays as little as at the label that it takes, and the labels without a price.
-ghost use Rattle.std.specs.Prelude.{◌≡◌, true, ℕ, ◌^◌, ◌≤◌, ◌<◌, ◌+ℤ◌, ◌≤ℤ◌, pos, unsigned_abs};
+ghost use Rattle.std.specs.Prelude.{◌≡◌, true, ℕ, ◌^◌, ◌≤◌, ◌<◌, ◌≤ℤ◌, pos, unsigned_abs};
 ghost use Rattle.instance.specs.Sheet.{instance_of};
 ghost use Rattle.placing.specs.Words.{entry, opens};
-ghost use Rattle.placing.specs.Priced.{cost_at, price, net, Tight, Unpriced};
-ghost use Rattle.placing.specs.TightRows.{in_row, Joins, RowTight};
+ghost use Rattle.placing.specs.Priced.{cost_at, price, Tight, Unpriced};
+ghost use Rattle.placing.specs.TightRows.{Joins, RowTight};
 
 use crate::offers::Offers;
 use crate::tables::{Nodes, Row};
