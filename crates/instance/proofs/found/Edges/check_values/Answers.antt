@@ -30,7 +30,7 @@ returns-then-not-all_prices_ok c =
 pub invariant_of-cells : goal.invariant_of-cells
 invariant_of-cells c =
     let x = c.args.self.now in
-    record { asked = usable_asked _ x.laid c.ends_at.ensures.0 (sym c.labels_ok.ensures ∙ c.if-not-labels_ok.false); all = x.laid.begun.counted.all }
+    record { asked = usable_asked _ x.laid c.requires c.ends_at.ensures.0 (sym c.labels_ok.ensures ∙ c.if-not-labels_ok.false); all = x.laid.begun.counted.all }
 
 pub returns-then-not-edges_usable : goal.returns-then-not-edges_usable
 unfolding checks

@@ -4,4 +4,4 @@ use Rattle.instance.specs.Passes.{place_ok}
 use Rattle.instance.proofs.found.Nodes.labels_ok.Given as goal
 
 abbrev pub invariant-loop-i : goal.invariant-loop-i
-invariant-loop-i l = Folded (place_ok l.self.counts.bytes.now) l.self.degrees.total l.i l.ok
+invariant-loop-i l = Folded (place_ok l.self.counts.bytes.now) l.self.positions l.i l.ok
