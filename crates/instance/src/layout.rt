@@ -10,6 +10,7 @@ use crate::sheet::Sheet;
 #[derive(Clone, Copy)]
 pub struct Layout {
     // the refusal's number, 0 for none
+    // Kept: a number, since all of a sheet that was refused is 0 but this.
     pub refusal: u8,
     // n, L and E
     pub nodes: usize,
