@@ -128,11 +128,18 @@ fn show_text<R: Print>(rt: &R, refusal: u8, report: Result<Report, u8>) -> io::R
     io::writer(rt).write_all(&text[..count])
 }
 
-// The text of a refused report, by the refusal itself.
+// The text of a refused report, by the refusal itself; and that by its number, should it be another.
 fn show_refused<R: Print>(rt: &R, refusal: Refusal) -> io::Result<()> {
     let mut text = [0u8; 256];
     let count = console::compose(RAN, Err(refusal), &mut text);
-    io::writer(rt).write_all(&text[..count])
+    io::writer(rt).write_all(&text[..count])?;
+    let number = u8::from(refusal);
+    let mut same = [0u8; 256];
+    console::compose_numbers(usize::MAX, 10, 13, Err(number), &mut same);
+    if text != same {
+        return show_text(rt, 13, Err(number));
+    }
+    Ok(())
 }
 
 // Numbers that no run has, and a buffer that is too short.
