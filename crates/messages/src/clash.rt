@@ -33,7 +33,7 @@ fn place_of(labels: &[u8], label: u8) -> Option<usize>
         .position(|other| !usable(usize::from(label), usize::from(*other)))
 }
 
-// The same by the labels' mask: most labels are none of the other end's, and their bit says so at once. It is looked for from the place `from` on, where that of a next label stands, as labels rise, and only then among all.
+// The same by the labels' mask: most labels are none of the other end's, and their bit says so at once. The search begins at `from`, past the place of a lower label, as labels rise; where it finds nothing there, it looks at all.
 pub(crate) fn clash(labels: &[u8], mask: u64, label: u8, from: usize) -> Option<usize>
     requires { Rising labels.now × Masks labels.now mask × (from ≤ length labels.now) }
     ensures { Skips labels.now label result }

@@ -1,9 +1,9 @@
 -- `low_at` meets its contract. The loops' invariants: `best` is the least of the position's first i cells but for `skip`, where i is before it, and where i is after it.
-use Rattle.std.proofs.Common.{◌≡◌, sym, subst, arith, ◌∙◌}
+use Rattle.std.proofs.Common.{arith, ◌∙◌}
 use Rattle.integers.proofs.Bits.{answer}
 use Rattle.messages.specs.EdgeMessage.{unbounded}
 use Rattle.messages.proofs.UsableLaws.{but_none}
-use Rattle.messages.proofs.StrideLaws.{Past, before_more, past_first, past_more, past_all}
+use Rattle.messages.proofs.StrideLaws.{before_more, past_first, past_more, past_all}
 use Rattle.messages.proofs.edge_message.Joint.low_at.Goals as goal
 
 pub loop-i-init : goal.loop-i-init
