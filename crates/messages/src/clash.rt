@@ -34,7 +34,7 @@ fn place_of(labels: &[u8], label: u8) -> Option<usize>
 }
 
 // The same by the labels' mask: most labels are none of the other end's, and their bit says so at once. The search begins at `from`, past the place of a lower label, as labels rise; where it finds nothing there, it looks at all.
-pub(crate) fn clash(labels: &[u8], mask: u64, label: u8, from: usize) -> Option<usize>
+pub(crate) fn clash_from(labels: &[u8], mask: u64, label: u8, from: usize) -> Option<usize>
     requires { Rising labels.now × Masks labels.now mask × (from ≤ length labels.now) }
     ensures { Skips labels.now label result }
 {
@@ -45,4 +45,12 @@ pub(crate) fn clash(labels: &[u8], mask: u64, label: u8, from: usize) -> Option<
         Some(place) => Some(from + place),
         None => place_of(labels, label),
     }
+}
+
+// The same by the mask alone, where no lower label's place is at hand.
+pub(crate) fn clash(labels: &[u8], mask: u64, label: u8) -> Option<usize>
+    requires { Rising labels.now × Masks labels.now mask }
+    ensures { Skips labels.now label result }
+{
+    clash_from(labels, mask, label, 0)
 }

@@ -4,7 +4,7 @@ ghost use Rattle.integers.specs.Least.{least_from};
 ghost use Rattle.integers.specs.Places.{tabulate};
 ghost use Rattle.messages.specs.EdgeMessage.{left_of, over, unbounded};
 
-use crate::clash::{clash, mask_of};
+use crate::clash::{clash_from, mask_of};
 use crate::edge_message::Joint;
 use crate::end::End;
 use crate::rows::{UNBOUNDED, less_at};
@@ -99,7 +99,7 @@ impl Joint<'_> {
         let mut passed = false;
         let mut from = 0;
         for (k, label) in self.own.iter().enumerate() {
-            if let Some(skip) = clash(self.other, mask, *label, from) {
+            if let Some(skip) = clash_from(self.other, mask, *label, from) {
                 from = skip + 1;
                 if self.cells[k * own + skip * other] <= least[k] {
                     least[k] = self.low_at(k, Some(skip));

@@ -20,7 +20,7 @@ pub(crate) fn usable_least(cells: &[i64], low: &[u8], high: &[u8]) -> i64
     let mut best = UNBOUNDED;
     let mut from = 0;
     for (k, label) in low.iter().enumerate() {
-        if let Some(skip) = clash(high, mask, *label, 0) {
+        if let Some(skip) = clash(high, mask, *label) {
             let to = k * width + skip;
             best = least(&cells[from..to], best);
             from = to + 1;

@@ -25,7 +25,7 @@ loop-k-preserved c =
     let h = c.loop-k-test.true in
     let g = c.loop-k.invariant.0 in
     let label = get_or j.own.now k 0 in
-    elim c.match-clash.branch [
+    elim c.match-clash_from.branch [
       | in-Some+then-self-k w ↦ let x : Skips j.other.now label (Some w.in-Some.skip) = w.in-Some.ensures in
           rw (w.least-is, w.passed-is, w.from-is) (gone_over g h (answer w.low_at.type_inv w.low_at.ensures ∙ ap (least_from unbounded) (line_left (by_rows j.end) j.joined.ends k h x)), past x)
       | in-Some+else-self-k w ↦ let x : Skips j.other.now label (Some w.in-Some.skip) = w.in-Some.ensures in

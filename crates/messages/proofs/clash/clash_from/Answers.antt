@@ -1,8 +1,8 @@
--- `clash` meets its contract: a label whose bit the mask lacks is none of the labels, and what is found from a place on stands so much further on.
+-- `clash_from` meets its contract: a label whose bit the mask lacks is none of the labels, and what is found from a place on stands so much further on.
 use Rattle.std.proofs.Common.{sym, ap, ◌∙◌}
 use lib.Bits.{bit_and}
 use Rattle.messages.proofs.ClashLaws.{masked_out, onward_rise, skips_onward}
-use Rattle.messages.proofs.clash.clash.Goals as goal
+use Rattle.messages.proofs.clash.clash_from.Goals as goal
 
 pub returns-then-mask-bit_of-eq0 : goal.returns-then-mask-bit_of-eq0
 returns-then-mask-bit_of-eq0 c =
