@@ -1,6 +1,7 @@
 // What reading has found of a sheet so far, a type for each stage. Whoever has one knows that the checks up to there passed.
 ghost use Rattle.std.specs.Prelude.{◌≡◌, ◌≤◌};
 ghost use Rattle.instance.specs.Sheet.{node_prices_at, ends_at, edge_prices_at};
+ghost use Rattle.instance.specs.Described.{starts_of};
 ghost use Rattle.instance.specs.Passes.{degrees_in, ends_in, Counted, Begun, Laid, PassedTo};
 
 // The trailer's counts: n, L and E.
@@ -31,6 +32,14 @@ pub(crate) struct Edges<'a> {
     pub cells: usize,
     ghost laid: { Laid nodes.counts.bytes.now nodes.counts.nodes nodes.counts.labels nodes.counts.edges (degrees_in nodes.counts.bytes.now nodes.positions) (ends_in nodes.counts.bytes.now cells) },
     ghost passed: { PassedTo nodes.counts.bytes.now 9 },
+}
+
+// And where each node's cells begin, as it was filled in: what the labels and the cells are tested by.
+#[derive(Clone, Copy)]
+pub(crate) struct Values<'a> {
+    pub found: Edges<'a>,
+    pub starts: &'a [usize; 64],
+    ghost begun: { starts.now ≡ starts_of found.nodes.counts.bytes.now },
 }
 
 // Where the sections behind the labels begin.
