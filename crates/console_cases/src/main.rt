@@ -114,6 +114,13 @@ fn run_files<R: Files + Print>(rt: &R, sheet: &str, records: &str) -> io::Result
     }
 }
 
+// A run with the most records done, which a cost stopped.
+const RAN: Answer = Answer {
+    done: usize::MAX,
+    stuck: 10,
+    refusal: Some(Refusal::CostOverflow),
+};
+
 // The text of a run with the most records done, by the numbers of its refusals.
 fn show_text<R: Print>(rt: &R, refusal: u8, report: Result<Report, u8>) -> io::Result<()> {
     let mut text = [0u8; 256];
@@ -121,21 +128,30 @@ fn show_text<R: Print>(rt: &R, refusal: u8, report: Result<Report, u8>) -> io::R
     io::writer(rt).write_all(&text[..count])
 }
 
+// The text of a refused report, by the refusal itself; and that by its number, should it be another.
+fn show_refused<R: Print>(rt: &R, refusal: Refusal) -> io::Result<()> {
+    let mut text = [0u8; 256];
+    let count = console::compose(RAN, Err(refusal), &mut text);
+    io::writer(rt).write_all(&text[..count])?;
+    let number = u8::from(refusal);
+    let mut same = [0u8; 256];
+    console::compose_numbers(usize::MAX, 10, 13, Err(number), &mut same);
+    if text != same {
+        return show_text(rt, 13, Err(number));
+    }
+    Ok(())
+}
+
 // Numbers that no run has, and a buffer that is too short.
 fn extreme_cases<R: Print>(rt: &R) -> io::Result<()> {
     heading(rt, "the longest text")?;
     show_text(rt, 13, Ok(Report::Kept(i64::MIN, i64::MAX, -10)))?;
     heading(rt, "a report refused")?;
-    show_text(rt, 13, Err(14))?;
+    show_refused(rt, Refusal::BoundAboveCost)?;
     heading(rt, "a number that no refusal has")?;
     show_text(rt, 200, Ok(Report::Bound(0)))?;
     heading(rt, "a buffer of 255 bytes")?;
-    let ran = Answer {
-        done: usize::MAX,
-        stuck: 10,
-        refusal: Some(Refusal::CostOverflow),
-    };
-    let count = console::compose(ran, Ok(Report::Bound(0)), &mut [0u8; 255]);
+    let count = console::compose(RAN, Ok(Report::Bound(0)), &mut [0u8; 255]);
     println!(rt; "{count}")
 }
 

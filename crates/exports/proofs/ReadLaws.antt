@@ -7,7 +7,7 @@ use lib.Dec.{eqb}
 use lib.ListN.{length, length-replicate}
 use Rattle.integers.proofs.Places.{by_cond}
 use Rattle.integers.proofs.Checks.{length-padded}
-use Rattle.instance.specs.Layout.{Layout}
+use Rattle.instance.specs.declared.layout.Layout.{Layout}
 use Rattle.instance.specs.Instance.{first}
 use Rattle.instance.specs.Sheet.{instance_of, refusal_of}
 use Rattle.instance.specs.Layout.{refused_by, described, answer_of, layout_of}

@@ -1,6 +1,6 @@
 -- The numbers of a reading, and the stretch of the sheet that holds the prices of an edge.
 use Rattle.std.specs.Prelude.{List, [], ◌∷◌, ◌++◌, ℕ, length}
-use Rattle.instance.specs.Layout.{Layout}
+use Rattle.instance.specs.declared.layout.Layout.{Layout}
 use Rattle.instance.specs.Sheet.{refusal_of}
 use Rattle.instance.specs.Layout.{layout_of, edge_refusal_of, edge_place_of, edge_prices_of}
 use Rattle.exports.specs.Stored.{Answered, answered, answered_in}

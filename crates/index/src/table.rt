@@ -5,7 +5,7 @@ ghost use Rattle.index.specs.Index.{Things, entered, held, index_of};
 use std::marker::Model;
 
 // An index: of each key below 64 the things that have it, rising, at most 64.
-#[derive(Drop)]
+#[derive(Clone, Copy)]
 pub struct Index {
     // Kept: for each key how many things it has, and then those, in one array: `index_of` promises just these numbers, and one array is cleared at once.
     entries: [u16; 4160],
@@ -20,6 +20,8 @@ impl Model for Index {
     ghost view = { λ i. i.entries };
 
     ghost invariant = { λ i. Few i.entries };
+
+    ghost inverse = { λ l. record { entries = l } };
 }
 
 impl Index {

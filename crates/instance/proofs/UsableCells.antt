@@ -8,9 +8,8 @@ use Rattle.integers.proofs.Checks.{below_at, below_all, below_fails, below_not}
 use Rattle.instance.specs.Bytes.{byte}
 use Rattle.instance.specs.Instance.{Instance, exclusive, usable, first}
 use Rattle.instance.specs.Sheet.{instance_of, ends_at, labels_ok, none_usable, usable_ok}
-use Rattle.instance.specs.declared.sections.Degrees.{Degrees}
-use Rattle.instance.specs.declared.sections.Ends.{Ends}
-use Rattle.instance.specs.Passes.{LabelsBegun, UsableAsked, Laid}
+use Rattle.instance.specs.Described.{starts_of}
+use Rattle.instance.specs.Passes.{Degrees, Ends, LabelsBegun, UsableAsked, Laid}
 use Rattle.instance.proofs.Stages.{start_is, labels_begun, ends_asked}
 use Rattle.instance.proofs.LaidOut.{row_inside}
 use Rattle.instance.proofs.Readable.{label_rises, ends_order}
@@ -129,11 +128,11 @@ wide_usable {s} {n} {at} asked t =
 
 -- after the prices
 module _ (s : List ℕ) {n labels edges : ℕ} {d : Degrees} {x : Ends} (l : Laid s n labels edges d x) where
-  pub usable_asked : {at : ℕ} → at ≡ ends_at s → labels_ok s ≡ true → UsableAsked s n at d.starts
+  pub usable_asked : {starts : List ℕ} → starts ≡ starts_of s → {at : ℕ} → at ≡ ends_at s → labels_ok s ≡ true → UsableAsked s n at starts
   unfolding first instance_of
-  usable_asked e r =
+  usable_asked q e r =
       record {
-        labels = labels_begun s l.begun;
+        labels = labels_begun s l.begun q;
         ends = rw (← l.begun.counted.all) (ends_asked s l.begun e);
         ordered = l.ordered;
         rising = r;

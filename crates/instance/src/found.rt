@@ -1,9 +1,8 @@
 // What reading has found of a sheet so far, a type for each stage. Whoever has one knows that the checks up to there passed.
 ghost use Rattle.std.specs.Prelude.{◌≡◌, ◌≤◌};
 ghost use Rattle.instance.specs.Sheet.{node_prices_at, ends_at, edge_prices_at};
-ghost use Rattle.instance.specs.Passes.{Counted, Begun, Laid, PassedTo};
-
-use crate::sections::{Degrees, Ends};
+ghost use Rattle.instance.specs.Described.{starts_of};
+ghost use Rattle.instance.specs.Passes.{degrees_in, ends_in, Counted, Begun, Laid, PassedTo};
 
 // The trailer's counts: n, L and E.
 #[derive(Clone, Copy)]
@@ -16,22 +15,31 @@ pub(crate) struct Counts<'a> {
     ghost passed: { PassedTo bytes.now 4 },
 }
 
-// And the degrees, with room for the edge ends behind them.
+// And N, with room for the edge ends behind the degrees. Where each node's cells begin is filled in beside it.
+// Kept: the starts and the tables are no fields here. What a stage has found is handed on by value, and a call would copy them at each stage.
 #[derive(Clone, Copy)]
 pub(crate) struct Nodes<'a> {
     pub counts: Counts<'a>,
-    pub degrees: Degrees,
-    ghost begun: { Begun counts.bytes.now counts.nodes counts.labels counts.edges degrees },
+    pub positions: usize,
+    ghost begun: { Begun counts.bytes.now counts.nodes counts.labels counts.edges (degrees_in counts.bytes.now positions) },
     ghost passed: { PassedTo counts.bytes.now 6 },
 }
 
-// And the edge ends; all sections are there, as long as they should be.
+// And M; all sections are there, as long as they should be. Where each edge's table begins is filled in beside it.
 #[derive(Clone, Copy)]
 pub(crate) struct Edges<'a> {
     pub nodes: Nodes<'a>,
-    pub ends: Ends,
-    ghost laid: { Laid nodes.counts.bytes.now nodes.counts.nodes nodes.counts.labels nodes.counts.edges nodes.degrees ends },
+    pub cells: usize,
+    ghost laid: { Laid nodes.counts.bytes.now nodes.counts.nodes nodes.counts.labels nodes.counts.edges (degrees_in nodes.counts.bytes.now nodes.positions) (ends_in nodes.counts.bytes.now cells) },
     ghost passed: { PassedTo nodes.counts.bytes.now 9 },
+}
+
+// And where each node's cells begin, as it was filled in: what the labels and the cells are tested by.
+#[derive(Clone, Copy)]
+pub(crate) struct Values<'a> {
+    pub found: Edges<'a>,
+    pub starts: &'a [usize; 64],
+    ghost begun: { starts.now ≡ starts_of found.nodes.counts.bytes.now },
 }
 
 // Where the sections behind the labels begin.
@@ -40,14 +48,14 @@ impl<'a> Nodes<'a> {
     pub(crate) fn prices_at(&self) -> usize
         ensures { (result ≡ node_prices_at self.now.counts.bytes.now) × (result ≤ 1_088) }
     {
-        self.counts.nodes + self.degrees.total
+        self.counts.nodes + self.positions
     }
 
     #[tactic(auto, using(crate::proofs::Stages::nodes_few, crate::proofs::Stages::positions_few, crate::proofs::Stages::ends_is))]
     pub(crate) fn ends_at(&self) -> usize
         ensures { (result ≡ ends_at self.now.counts.bytes.now) × (result ≤ 5_184) }
     {
-        self.counts.nodes + 5 * self.degrees.total
+        self.counts.nodes + 5 * self.positions
     }
 
     #[tactic(auto, using(crate::proofs::Stages::edges_few, crate::proofs::Stages::edge_prices_is))]

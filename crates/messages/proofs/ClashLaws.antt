@@ -1,11 +1,12 @@
 -- Where a label meets an unusable cell among the labels of a node, which rise, and what a mask of them says.
 -- Assumes nothing.
-use Rattle.std.proofs.Common.{◌≡◌, ℕ, ◌+◌, ◌%◌, ◌^◌, ◌<◌, ◌≤◌, true, false, not, eqb, ltb, Option, None, Some, List, length, get_or, sym, ap, ◌∙◌, arith, rules, ltb-false, ltb-true, ne_eqb, eqb-true}
+use Rattle.std.proofs.Common.{◌≡◌, ℕ, suc, ◌+◌, ◌-◌, ◌%◌, ◌^◌, ◌<◌, ◌≤◌, true, false, not, eqb, ltb, Option, None, Some, List, length, get_or, take, drop, length-drop, get_or-drop, sym, refl, subst, ap, ◌∙◌, arith, eq-eqb, rules, ltb-false, ltb-true, ne_eqb, eqb-true}
 use borrow.Author.Tests.{eqb-false}
 use lib.Bits.{bit_and, bit_or}
 use Rattle.integers.specs.Words.{bit}
 use Rattle.integers.proofs.Places.{by-test, and_both, left_true, right_true}
 use Rattle.integers.proofs.Counting.{climbs}
+use Rattle.integers.proofs.Rows.{tail_part}
 use Rattle.integers.proofs.Words.{bit_or_lem, bit_and_lem, bit_own, some_bit}
 use Rattle.instance.specs.Instance.{usable}
 use Rattle.instance.proofs.UsableCells.{distinct_usable}
@@ -45,6 +46,25 @@ module _ {labels : List ℕ} {label : ℕ} where
       → Skips labels label r
   skips_found None e h = skips_none (λ p k. h p 0 (omega arith) k)
   skips_found (Some at) e h = skips_here e h.0 (h.1 0)
+
+-- among the labels from a place on
+module _ (labels : List ℕ) (from : ℕ) where
+  abbrev onward : List ℕ
+  onward = take (length labels - from) (drop from labels)
+
+  pub onward_rise : Rising labels → Rising onward
+  onward_rise r =
+      subst Rising (sym (tail_part from labels))
+      (λ i h. let z : from + suc i ≡ suc (from + i) = omega arith in
+      let a = get_or-drop from labels i 0 in
+      let b = get_or-drop from labels (suc i) 0 ∙ ap (λ (k : ℕ). get_or labels k 0) z in
+      let s = r (from + i) (omega (arith, h, length-drop from labels)) in omega (arith, a, b, s))
+
+  pub skips_onward : Rising labels → {label p : ℕ} → Skips onward label (Some p) → Skips labels label (Some (from + p))
+  skips_onward r {label} {p} s =
+      let t : Skips (drop from labels) label (Some p) = subst (λ (l : List ℕ). Skips l label (Some p)) (tail_part from labels) s in
+      let i : p < length (drop from labels) = t.inside in
+      skips_here r (omega (arith, i, length-drop from labels)) (ap (usable label) (sym (get_or-drop from labels p 0)) ∙ t.passed p i ∙ ap not (eq-eqb p p refl))
 
 -- with none it is as if the place past all labels were skipped
 pub skips_past : {labels : List ℕ} {label : ℕ} → Skips labels label None → (p : ℕ) → p < length labels → usable label (get_or labels p 0) ≡ not (eqb p (length labels))

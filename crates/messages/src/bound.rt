@@ -32,7 +32,7 @@ fn node_sum(held: &Checked) -> i64
 }
 
 // The least usable of the cells of edge `e`.
-// Kept: the costs of the cells are asked to fit, as in `amount_of`.
+// Kept: that the costs of the cells fit is asked for. They are cut from a buffer for this one call; a struct around them would be made and opened at each cut.
 fn cell_least(sheet: &Sheet, cells: &[i64], e: usize) -> i64
     requires edge { e < sheet.now.edges }
     requires fits { Fits (table_size (instance_of sheet.now.bytes.now) e) cells.now }

@@ -1,5 +1,5 @@
 // The unusable cells of an edge: where its two ends have one label that only one node may take. Document 02, wish 2.
-ghost use Rattle.std.specs.Prelude.{◌≡◌};
+ghost use Rattle.std.specs.Prelude.{◌≡◌, ◌≤◌, length};
 ghost use Rattle.messages.specs.Clash.{Rising, Skips, bit_at, Masks};
 
 use instance::usable;
@@ -33,13 +33,24 @@ fn place_of(labels: &[u8], label: u8) -> Option<usize>
         .position(|other| !usable(usize::from(label), usize::from(*other)))
 }
 
-// The same by the labels' mask: most labels are none of the other end's, and their bit says so at once.
-pub(crate) fn clash(labels: &[u8], mask: u64, label: u8) -> Option<usize>
-    requires { Rising labels.now × Masks labels.now mask }
+// The same by the labels' mask: most labels are none of the other end's, and their bit says so at once. The search begins at `from`, past the place of a lower label, as labels rise; where it finds nothing there, it looks at all.
+pub(crate) fn clash_from(labels: &[u8], mask: u64, label: u8, from: usize) -> Option<usize>
+    requires { Rising labels.now × Masks labels.now mask × (from ≤ length labels.now) }
     ensures { Skips labels.now label result }
 {
     if mask & bit_of(label) == 0 {
         return None;
     }
-    place_of(labels, label)
+    match place_of(&labels[from..], label) {
+        Some(place) => Some(from + place),
+        None => place_of(labels, label),
+    }
+}
+
+// The same by the mask alone, where no lower label's place is at hand.
+pub(crate) fn clash(labels: &[u8], mask: u64, label: u8) -> Option<usize>
+    requires { Rising labels.now × Masks labels.now mask }
+    ensures { Skips labels.now label result }
+{
+    clash_from(labels, mask, label, 0)
 }

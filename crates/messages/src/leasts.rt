@@ -4,7 +4,7 @@ ghost use Rattle.integers.specs.Least.{least_from};
 ghost use Rattle.integers.specs.Places.{tabulate};
 ghost use Rattle.messages.specs.EdgeMessage.{left_of, over, unbounded};
 
-use crate::clash::{clash, mask_of};
+use crate::clash::{clash_from, mask_of};
 use crate::edge_message::Joint;
 use crate::end::End;
 use crate::rows::{UNBOUNDED, less_at};
@@ -42,18 +42,21 @@ impl Joint<'_> {
         [a, b, c, d]
     }
 
-    // The least of the cells at a position but for the one at `skip`, if there is one.
+    // The least of the cells at a position but for the one at `skip`, if there is one: of those before it and of those after.
     fn low_at(&self, k: usize, skip: Option<usize>) -> i64
         requires k_bound { k < length self.now.own.now }
         requires skip_bound { IfSome skip (λ s. s < length self.now.other.now) }
         ensures { result ≡ least_from unbounded (left_of (line_in self.now k) skip) }
     {
         let (own, other) = self.strides();
+        let many = self.other.len();
+        let gap = skip.unwrap_or(many);
         let mut best = UNBOUNDED;
-        for i in 0..self.other.len() {
-            if Some(i) != skip {
-                best = less_at(self.cells, k * own + i * other, best);
-            }
+        for i in 0..gap {
+            best = less_at(self.cells, k * own + i * other, best);
+        }
+        for i in gap + 1..many {
+            best = less_at(self.cells, k * own + i * other, best);
         }
         best
     }
@@ -94,8 +97,10 @@ impl Joint<'_> {
         let (own, other) = self.strides();
         let mask = mask_of(self.other);
         let mut passed = false;
+        let mut from = 0;
         for (k, label) in self.own.iter().enumerate() {
-            if let Some(skip) = clash(self.other, mask, *label) {
+            if let Some(skip) = clash_from(self.other, mask, *label, from) {
+                from = skip + 1;
                 if self.cells[k * own + skip * other] <= least[k] {
                     least[k] = self.low_at(k, Some(skip));
                     passed = true;

@@ -39,4 +39,4 @@ pub use opening::open;
 pub use reporting::report;
 
 // What reading promises, passed on to the layers above.
-pub use instance::{Refusal, Sheet, exclusive};
+pub use instance::{Layout, Refusal, Sheet, exclusive, read};

@@ -16,7 +16,7 @@ use crate::state::State;
 use instance::{Sheet, exclusive};
 
 // Adds a row of costs to the keys, place by place.
-// Kept: the costs are asked to be within the limit, as in `amount_of`, and the keys, here and in `add_edge`, to be no larger than sums of them: an array that is made for one node.
+// Kept: that the costs are within the limit is asked for. They are cut from a buffer for this one call; a struct around them would be made and opened at each cut. So is, here and in `add_edge`, that the keys are no larger than sums of them: an array that is made for one node.
 fn add_cells(keys: &mut [i64], row: &[i64])
     requires row_in_bounds { length row.now ≤ length keys.old }
     requires within { Within (2 ^ 50) keys.old }

@@ -81,7 +81,7 @@ fn nearest_to(n: u64, share: Share) -> u64
 }
 
 // A share of how far a cost is above another, or below it. Most shares are 1, and a division takes long.
-// Kept: that a cost is within the limit is asked for here and by those that call it for one cost, as in `amount_of` for a row.
+// Kept: that a cost is within the limit is asked for here and by those that call it for one cost. It is read from a buffer for this one call; a struct around it would be made and opened at each.
 pub(crate) fn share_of(cost: i64, low: i64, part: Share) -> i64
     requires { (unsigned_abs cost ≤ cost_limit) × (unsigned_abs low ≤ cost_limit) }
     ensures { result ≡ share (cost -ℤ low) part.parts }

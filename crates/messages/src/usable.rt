@@ -9,7 +9,7 @@ use crate::clash::{clash, mask_of};
 use crate::rows::{UNBOUNDED, least};
 
 // The least usable cell of an edge's table: of the stretches between the unusable ones, which stand ever further on.
-// Kept: the costs are asked to be within the limit, as in `amount_of`.
+// Kept: that the costs are within the limit is asked for. They are cut from a buffer for this one call; a struct around them would be made and opened at each cut.
 pub(crate) fn usable_least(cells: &[i64], low: &[u8], high: &[u8]) -> i64
     requires ends { Ends true low.now high.now cells.now }
     requires within { Within cost_limit cells.now }

@@ -1,5 +1,5 @@
 -- Placing by words: a node's labels are the bits of a word. A position is the label itself, and 255 for the label that any number of nodes may take.
-use Rattle.std.specs.Prelude.{◌≡◌, Bool, true, false, cond, ◌&&◌, ◌||◌, List, ◌⊎◌, ℕ, zero, suc, ◌+◌, ◌-◌, ◌^◌, ◌≤◌, ◌<◌, eqb, ltb, length, get_or}
+use Rattle.std.specs.Prelude.{◌≡◌, Bool, true, false, not, cond, ◌&&◌, ◌||◌, List, ◌⊎◌, ℕ, zero, suc, ◌+◌, ◌-◌, ◌^◌, ◌≤◌, ◌<◌, eqb, ltb, length, get_or}
 use Rattle.std.specs.Int.Bits.{bit_and}
 use Rattle.std.specs.Int.Count.{ones}
 use Rattle.integers.specs.Words.{bit, Words}
@@ -128,6 +128,11 @@ pub record Linked (sets taken holders reach : List ℕ) (free : ℕ) : Type 0 wh
   pub taker : (u : ℕ) → u < 64 → entry taken u < 64 → (bit free (entry taken u) ≡ false) × (entry holders (entry taken u) ≡ u)
   pub held : (l : ℕ) → l < 64 → bit free l ≡ false → (entry holders l < 64) × (entry taken (entry holders l) ≡ l) × (entry reach l ≡ entry sets (entry holders l))
 
+-- the word has the labels that are not free and whose holders have 255
+pub record Owning (own : List Bool) (holders : List ℕ) (free owned : ℕ) : Type 0 where
+  pub fit : owned < 2 ^ 64
+  pub has : (l : ℕ) → l < 64 → bit owned l ≡ (not (bit free l) && flag own (entry holders l))
+
 -- some node takes the label
 abbrev pub Holds : List ℕ → ℕ → Type 0
 Holds taken l = (v : ℕ) × (v < 64) × (entry taken v ≡ l)
@@ -201,11 +206,6 @@ pub record Lowest (n : ℕ) (sets : List ℕ) (own : List Bool) (idle : ℕ) (ta
   pub filled : Filled idle taken'
   pub settled : Settled (Full n sets own idle) (entry taken') (u + 1)
   pub same : (w : ℕ) → w < u → entry taken' w ≡ entry taken w
-
--- the nodes that have 255 are below `end`
-pub record Owned (n : ℕ) (own : List Bool) (end : ℕ) : Type 0 where
-  pub within : end ≤ n
-  pub none : (w : ℕ) → w < n → end ≤ w → flag own w ≡ false
 
 -- u takes none, and all others are seated; each label that is not of `idle` is taken, but for the one that is owed, which is not
 pub record Out (n : ℕ) (own : List Bool) (idle owed u : ℕ) (taken : List ℕ) : Type 0 where

@@ -2,50 +2,30 @@
 ghost use Rattle.std.specs.Prelude.{◌≡◌, true, false, ℕ, ◌≤◌, ◌<◌};
 ghost use Rattle.assignment.specs.First.{First};
 ghost use Rattle.integers.specs.Words.{bit};
-ghost use Rattle.placing.specs.Words.{entry, flag, Full, Seated, Aimed, Lowered, Lowest, Owned, Tried};
+ghost use Rattle.placing.specs.Words.{entry, flag, Full, Seated, Aimed, Below, Lowered, Lowest, Tried};
 
 use crate::filling::must_stay;
 use crate::search::Steps;
 use crate::seats::Seats;
-use crate::tables::Nodes;
 use crate::words::{bit_of, has_below, lowest, with_label};
 
-// What a node is lowered under: the labels of the nodes below it, which stay theirs; the labels that may stay free; and an end below which all nodes with 255 are.
+// What a node is lowered under: the labels of the nodes below it, which stay theirs, and the labels that may stay free.
 #[derive(Drop)]
 pub(crate) struct Terms {
     pub closed: u64,
     pub idle: u64,
-    pub end: usize,
-}
-
-// An end below which all nodes with 255 are: 0 if none has it, else that of all nodes.
-fn owners_end(nodes: &Nodes) -> usize
-    ensures { Owned nodes.now.count nodes.now.own result }
-{
-    let mut some = false;
-    // Kept: no `any`, as a loop without a way out takes many at a time.
-    for own in &nodes.own {
-        some |= *own;
-    }
-    if some { nodes.count } else { 0 }
 }
 
 impl<'a> Seats<'a> {
-    // The labels that nodes above `u` take and can leave, as they have 255.
-    fn loose(&self, u: usize, end: usize) -> u64
-        requires { (u < 64) × Owned self.now.nodes.now.count self.now.nodes.now.own end }
-        ensures only { (l : ℕ) → bit result l ≡ true → (w : ℕ) × (w < 64) × (u < w) × (entry self.now.taken w ≡ l) × (flag self.now.nodes.now.own w ≡ true) }
-        ensures all { (w : ℕ) → u < w → w < self.now.nodes.now.count → flag self.now.nodes.now.own w ≡ true → entry self.now.taken w < 64 → bit result (entry self.now.taken w) ≡ true }
+    // The labels that nodes above a node `u` take and can leave, as they have 255, where `u` takes none and `closed` has the labels of the nodes below it.
+    // Kept: `u` is bound in the contract, as the code does not read it.
+    fn loose(&self, closed: u64) -> u64
+        ensures only { (u : ℕ) → 64 ≤ entry self.now.taken u → Below closed u self.now.taken
+            → (l : ℕ) → bit result l ≡ true → (w : ℕ) × (w < 64) × (u < w) × (entry self.now.taken w ≡ l) × (flag self.now.nodes.now.own w ≡ true) }
+        ensures all { (u : ℕ) → Below closed u self.now.taken
+            → (w : ℕ) → u < w → w < self.now.nodes.now.count → flag self.now.nodes.now.own w ≡ true → entry self.now.taken w < 64 → bit result (entry self.now.taken w) ≡ true }
     {
-        let mut loose = 0;
-        // Kept: from 0 on, so that where none has 255 the loop costs one comparison.
-        for w in 0..end {
-            let leaves = (w > u) & self.nodes.own[w];
-            if leaves {
-                loose = with_label(loose, self.taken[w]);
-            }
-        }
-        loose
+        (self.owned | closed) ^ closed
     }
 
     // Node `u`, which takes none, takes the lowest of its labels from which a search meets one of `goals`, if there is one. No label of `before` is touched.
@@ -73,7 +53,7 @@ impl<'a> Seats<'a> {
     // Where its label may not stay free and no other node can take it, only what leads to that label will do; else each label that is free, or that its node can leave.
     fn lower(&mut self, u: usize, terms: &Terms, steps: &mut Steps)
         requires { Lowered self.old.nodes.now.count self.old.nodes.now.sets self.old.nodes.now.own terms.now.idle self.old.taken terms.now.closed u
-            × (u < self.old.nodes.now.count) × Owned self.old.nodes.now.count self.old.nodes.now.own terms.now.end }
+            × (u < self.old.nodes.now.count) }
         ensures same { self.new.nodes.now ≡ self.old.nodes.now }
         ensures lowest { Lowest self.old.nodes.now.count self.old.nodes.now.sets self.old.nodes.now.own terms.now.idle self.old.taken u self.new.taken }
     {
@@ -91,7 +71,7 @@ impl<'a> Seats<'a> {
                 return;
             }
         }
-        let loose = self.loose(u, terms.end);
+        let loose = self.loose(closed);
         let goals = self.free | loose;
         self.settle(u, goals, closed, steps);
     }
@@ -102,11 +82,10 @@ impl<'a> Seats<'a> {
         requires filled { (l : ℕ) → l < 64 → bit idle l ≡ false → bit self.old.free l ≡ false }
         ensures { First (Full self.old.nodes.now.count self.old.nodes.now.sets self.old.nodes.now.own idle) self.old.nodes.now.count (entry self.new.taken) }
     {
-        let end = owners_end(self.nodes);
         let mut closed = 0;
         let mut steps = Steps::new();
         for u in 0..self.nodes.count {
-            let terms = Terms { closed, idle, end };
+            let terms = Terms { closed, idle };
             self.lower(u, &terms, &mut steps);
             closed = with_label(closed, self.taken[u]);
         }

@@ -2,12 +2,12 @@
 ghost use Rattle.std.specs.Prelude.{◌≡◌, true, ◌^◌, ◌≤◌, ◌<◌, ℕ, set};
 ghost use Rattle.std.specs.Int.Bits.{bit_xor};
 ghost use Rattle.integers.specs.Words.{bit};
-ghost use Rattle.placing.specs.Words.{entry, Linked, Joined};
+ghost use Rattle.placing.specs.Words.{entry, Linked, Owning, Joined};
 
 use crate::tables::Nodes;
 use crate::words::{bit_of, with_label};
 
-// The label that each node takes, 255 for none; the node that holds each label, and the word of that node's labels; and the labels that are free.
+// The label that each node takes, 255 for none; the node that holds each label, and the word of that node's labels; the labels that are free, and those that nodes with 255 take.
 // Kept: 255 and no Option: a node that has 255 and takes no other label is placed thereby, and an `Option` would have to be turned into 255 in the end.
 // Kept: methods that callers go on from say that `nodes` is the same, since a ghost field speaks of one value and not of two.
 // Kept: two arrays by label and none of structs, as a search reads the words alone, one after the other.
@@ -18,7 +18,9 @@ pub(crate) struct Seats<'a> {
     pub holders: [u8; 64],
     pub reach: [u64; 64],
     pub free: u64,
+    pub owned: u64,
     ghost linked: { Linked nodes.now.sets taken holders reach free },
+    ghost owning: { Owning nodes.now.own holders free owned },
 }
 
 impl<'a> Seats<'a> {
@@ -32,6 +34,7 @@ impl<'a> Seats<'a> {
             holders: [0; 64],
             reach: [0; 64],
             free: u64::MAX,
+            owned: 0,
         }
     }
 
@@ -48,7 +51,12 @@ impl<'a> Seats<'a> {
         // Kept: a node is below 64; `try_from` would add a case that cannot happen.
         self.holders[at] = u as u8;
         self.reach[at] = self.nodes.sets[u];
-        self.free ^= bit_of(l);
+        let word = bit_of(l);
+        self.free ^= word;
+        let leaves = self.nodes.own[u];
+        if leaves {
+            self.owned |= word;
+        }
     }
 
     // Node `u` leaves its label, if it takes one.
@@ -60,6 +68,8 @@ impl<'a> Seats<'a> {
         ensures free { Joined self.old.free (entry self.old.taken u) self.new.free }
     {
         self.free = with_label(self.free, self.taken[u]);
+        // A label that is free is none that a node with 255 takes.
+        self.owned = (self.owned | self.free) ^ self.free;
         self.taken[u] = 255;
     }
 }

@@ -2,14 +2,14 @@
 // no contract can say what a file holds.
 #![tactic(auto)]
 
-ghost use Rattle.std.specs.Prelude.{ℕ, ◌≤◌, length};
+ghost use Rattle.std.specs.Prelude.{ℕ, ◌≡◌, ◌≤◌, length, take};
 
 use std::fs::{self, Files};
 use std::io::{self, Print, Read, Write};
 
-// Reads to the buffer's end, the input's or the first read that fails, and answers the bytes that were read.
-pub fn read_full<'a, R: Read>(reader: &mut R, buffer: &'a mut [u8]) -> &'a [u8]
-    ensures { length result.now ≤ length buffer.old }
+// Reads to the buffer's end, the input's or the first read that fails, and answers how many bytes there are.
+pub fn fill_from<R: Read>(reader: &mut R, buffer: &mut [u8]) -> usize
+    ensures { (result ≤ length buffer.new) × (result ≡ length (take result buffer.new)) }
 {
     // Kept: a read gives as many bytes as it likes, so no range counts the turns.
     let mut done = 0;
@@ -19,21 +19,37 @@ pub fn read_full<'a, R: Read>(reader: &mut R, buffer: &'a mut [u8]) -> &'a [u8]
             Ok(count) => done += count,
         }
     }
-    &buffer[..done]
+    done
 }
 
-// Reads a file to the buffer's end, and answers its bytes. One that is missing or cannot be read is empty.
+// Reads a file to the buffer's end, and answers how many bytes it has. One that is missing or cannot be read is empty.
 // Kept: a name in bytes, of which one that is no text counts as missing; a `&str` would ask more of callers.
+pub fn fill_from_file<R: Files>(rt: &R, name: &[u8], buffer: &mut [u8]) -> usize
+    ensures { (result ≤ length buffer.new) × (result ≡ length (take result buffer.new)) }
+{
+    let Ok(path) = str::from_utf8(name) else {
+        return 0;
+    };
+    match fs::open(rt, path) {
+        Ok(mut file) => fill_from(&mut file, buffer),
+        Err(_) => 0,
+    }
+}
+
+// The same as `fill_from`, and answers the bytes that were read. The buffer stays lent as long as they are held.
+pub fn read_full<'a, R: Read>(reader: &mut R, buffer: &'a mut [u8]) -> &'a [u8]
+    ensures { length result.now ≤ length buffer.old }
+{
+    let count = fill_from(reader, buffer);
+    &buffer[..count]
+}
+
+// The same as `fill_from_file`, and answers the file's bytes.
 pub fn read_file<'a, R: Files>(rt: &R, name: &[u8], buffer: &'a mut [u8]) -> &'a [u8]
     ensures { length result.now ≤ length buffer.old }
 {
-    let Ok(path) = str::from_utf8(name) else {
-        return &[];
-    };
-    match fs::open(rt, path) {
-        Ok(mut file) => read_full(&mut file, buffer),
-        Err(_) => &[],
-    }
+    let count = fill_from_file(rt, name, buffer);
+    &buffer[..count]
 }
 
 // Writes the text that a function puts at the start of a buffer, of which it answers the length.

@@ -1,7 +1,7 @@
 -- `store_sheet` meets its contract: the three parts are lent one after the other.
 use lib.ListN.{length}
 use mathlib.Core.Path.{ap, ◌∙◌}
-use Rattle.instance.specs.Layout.{Layout}
+use Rattle.instance.specs.declared.layout.Layout.{Layout}
 use Rattle.instance.proofs.LaidOut.{described_by}
 use Rattle.exports.specs.Reading.{counts_of, numbers_of}
 use Rattle.exports.proofs.ReadLaws.{starts_long, numbers_by}

@@ -4,7 +4,7 @@ use Rattle.instance.proofs.Turns.{degrees_none, degrees_bad, degree_low, degree_
 use Rattle.instance.proofs.found.Counts.read_degrees.Goals as goal
 
 pub loop-u-init : goal.loop-u-init
-loop-u-init c = degrees_none _ _
+loop-u-init c = rw c.requires (degrees_none _ _)
 
 pub returns-then-degree-lt1 : goal.returns-then-degree-lt1
 returns-then-degree-lt1 c =

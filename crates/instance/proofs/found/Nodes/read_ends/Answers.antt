@@ -38,7 +38,7 @@ module _ (p : After-from-v) where
   ev = p.from-v.ensures
 
 pub loop-e-init : goal.loop-e-init
-loop-e-init c = ends_none _ _
+loop-e-init c = rw c.requires (ends_none _ _)
 
 pub bounds-bytes-at : goal.bounds-bytes-at
 bounds-bytes-at c = omega (arith, (ends_asked _ c.args.self.now.begun c.ends_at-at.ensures.0).room)

@@ -1,23 +1,24 @@
--- `low_at` meets its contract. The loop's invariant: `best` is the least of the position's first i cells but for `skip`.
-use Rattle.std.proofs.Common.{sym, refl, ◌∙◌, arith}
+-- `low_at` meets its contract. The loops' invariants: `best` is the least of the position's first i cells but for `skip`, where i is before it, and where i is after it.
+use Rattle.std.proofs.Common.{arith, ◌∙◌}
 use Rattle.integers.proofs.Bits.{answer}
 use Rattle.messages.specs.EdgeMessage.{unbounded}
-use Rattle.messages.proofs.UsableLaws.{but_none, but_skipped}
-use Rattle.messages.proofs.StrideLaws.{low_more, low_all}
+use Rattle.messages.proofs.UsableLaws.{but_none}
+use Rattle.messages.proofs.StrideLaws.{before_more, past_first, past_more, past_all}
 use Rattle.messages.proofs.edge_message.Joint.low_at.Goals as goal
-use Rattle.messages.proofs.edge_message.Joint.low_at.Goals.{then-ne, else-ne}
 
 pub loop-i-init : goal.loop-i-init
 loop-i-init c = but_none _ unbounded _
 
 pub loop-i-preserved : goal.loop-i-preserved
 loop-i-preserved c =
-    let i = c.loop-i.i in
-    elim c.if-ne.branch [
-      | then-ne w ↦ w.best-is ∙ answer w.less_at-best.type_inv w.less_at-best.ensures
-          ∙ low_more c.args.self.now c.strides-own.ensures c.args.k i c.args.skip (sym c.ne.ensures ∙ w.if-ne.true) refl c.loop-i.invariant
-      | else-ne w ↦ w.best-is ∙ c.loop-i.invariant ∙ but_skipped _ unbounded c.args.skip i (sym c.ne.ensures ∙ w.if-ne.false)
-    ]
+    answer c.less_at-best.type_inv c.less_at-best.ensures ∙ before_more c.args.self.now c.args.k c.args.skip c.unwrap_or-gap.ensures c.strides-own.ensures c.loop-i-test.true c.loop-i.invariant
+
+pub loop-i-2-init : goal.loop-i-2-init
+loop-i-2-init c = past_first c.args.self.now c.args.k c.args.skip c.unwrap_or-gap.ensures c.requires.skip_bound (omega (arith, c.loop-i-test.false)) (omega (arith, c.loop-i.auto)) c.loop-i.invariant
+
+pub loop-i-2-preserved : goal.loop-i-2-preserved
+loop-i-2-preserved c =
+    rw (answer c.less_at-best-in-loop-i-2.type_inv c.less_at-best-in-loop-i-2.ensures) (past_more c.args.self.now c.args.k c.args.skip c.unwrap_or-gap.ensures c.strides-own.ensures c.loop-i-2-test.true c.loop-i-2.invariant)
 
 pub returns : goal.returns
-returns c = c.loop-i.invariant ∙ low_all c.args.self.now c.args.k c.requires.k_bound c.args.skip (omega (arith, c.loop-i-test.false, c.loop-i.auto))
+returns c = past_all c.args.self.now c.args.k c.args.skip c.unwrap_or-gap.ensures c.requires.k_bound (omega (arith, c.loop-i-2-test.false)) c.loop-i-2.invariant
