@@ -59,7 +59,7 @@ impl Sheet<'_> {
     }
 }
 
-// Reads a sheet: what it holds, or why it is turned back.
+// Reads a sheet: what it holds, or the number of its refusal and 0 in all other places.
 #[tactic(auto, using(crate::proofs::LaidOut::refused_by_lem, crate::proofs::Told::numbered))]
 pub fn read(bytes: &[u8]) -> Layout
     ensures { result ≡ layout_of bytes.now }
